@@ -81,11 +81,11 @@ pub fn check_codes(file: &[u8], header: &Header) -> Result<(), FileFault>
     requires headed { ⌜ Headed (now file) ⌝ }
     ensures first { λ r. ⌜ Cases r (λ _. Codes-good (now (file .entry))) (First (now (file .entry))) ⌝ }
 {
-    for record in Records::<CODE_LEN>::over(file, header.codes_at as usize, header.codes as usize) {
+    let start = header.codes_at as usize;
+    for record in Records::<CODE_LEN>::over(file, start, header.codes as usize) {
+        let place = record.place;
         if !Code::decode(record.bytes).is_lawful() {
-            return Err(FileFault::Code {
-                place: record.place,
-            });
+            return Err(FileFault::Code { place });
         }
     }
     Ok(())
@@ -98,15 +98,11 @@ pub fn check_events(file: &[u8], header: &Header) -> Result<(), FileFault>
     requires codes { ⌜ Codes-good (now file) ⌝ }
     ensures first { λ r. ⌜ Cases r (λ _. Events-good (now (file .entry))) (First (now (file .entry))) ⌝ }
 {
-    for record in Records::<EVENT_LEN>::over(
-        file,
-        header.events_at as usize,
-        header.events as usize,
-    ) {
+    let start = header.events_at as usize;
+    for record in Records::<EVENT_LEN>::over(file, start, header.events as usize) {
+        let place = record.place;
         if !Event::decode(record.bytes).is_lawful(header.codes) {
-            return Err(FileFault::Event {
-                place: record.place,
-            });
+            return Err(FileFault::Event { place });
         }
     }
     Ok(())
@@ -121,16 +117,12 @@ pub fn check_times(file: &[u8], header: &Header) -> Result<(), FileFault>
     ensures first { λ r. ⌜ Cases r (λ _. Times-good (now (file .entry))) (First (now (file .entry))) ⌝ }
 {
     let mut latest = 0;
-    for record in Records::<EVENT_LEN>::over(
-        file,
-        header.events_at as usize,
-        header.events as usize,
-    ) {
+    let start = header.events_at as usize;
+    for record in Records::<EVENT_LEN>::over(file, start, header.events as usize) {
+        let place = record.place;
         let event = Event::decode(record.bytes);
         if event.time < latest {
-            return Err(FileFault::Time {
-                place: record.place,
-            });
+            return Err(FileFault::Time { place });
         }
         latest = event.time;
     }

@@ -70,11 +70,9 @@ impl<'a> SessionFile<'a> {
         ensures reader { λ r. ⌜ Over 8 (now (now (self .entry) .bytes)) (now (self .entry) .header .«codes_at») (now (self .entry) .header .codes) r ⌝ }
         ensures order { λ r. ⌜ Hands-out 8 r ⌝ }
     {
-        Records::over(
-            self.bytes,
-            self.header.codes_at as usize,
-            self.header.codes as usize,
-        )
+        let header = self.header();
+        let start = header.codes_at as usize;
+        Records::over(self.bytes, start, header.codes as usize)
     }
 
     /// The events, in their order, each as its part of the file.
@@ -82,11 +80,9 @@ impl<'a> SessionFile<'a> {
         ensures reader { λ r. ⌜ Over 16 (now (now (self .entry) .bytes)) (now (self .entry) .header .«events_at») (now (self .entry) .header .events) r ⌝ }
         ensures order { λ r. ⌜ Hands-out 16 r ⌝ }
     {
-        Records::over(
-            self.bytes,
-            self.header.events_at as usize,
-            self.header.events as usize,
-        )
+        let header = self.header();
+        let start = header.events_at as usize;
+        Records::over(self.bytes, start, header.events as usize)
     }
 
     /// The code at a place, or none past the last.

@@ -1,10 +1,9 @@
 //! How a reader is made, and what it hands out.
 
 ghost use mathlib.Core.Path.{_≡_};
-ghost use Prim.Native.Nat.{_+_, _-_, _≤_};
+ghost use Prim.Native.Nat.{_+_, _*_, _-_, _≤_};
 ghost use lib.ListN.{length};
-ghost use Rattle.std.specs.shelf.Lists.{between};
-ghost use Rattle.records.specs.Parts.{fits};
+ghost use Rattle.records.specs.Parts.{fits, part};
 ghost use Rattle.records.specs.Reading.{Over, Answer, Next, Hands-out};
 use super::Record;
 use super::Records;
@@ -22,12 +21,12 @@ fn lie_within(file: &[u8], len: usize, start: usize, count: usize) -> bool
     }
 }
 
-/// The `LEN` bytes of the file from `from` on.
-fn bytes_from<const LEN: usize>(file: &[u8], from: usize) -> &[u8; LEN]
-    requires within { ⌜ from + LEN ≤ length (now file) ⌝ }
-    ensures value { λ r. ⌜ now r ≡ between from (from + LEN) (now (file .entry)) ⌝ }
+/// The bytes of the record at a place, of records from `start` on.
+fn bytes_at<const LEN: usize>(file: &[u8], start: usize, place: usize) -> &[u8; LEN]
+    requires within { ⌜ start + LEN * place + LEN ≤ length (now file) ⌝ }
+    ensures value { λ r. ⌜ now r ≡ part LEN (now (file .entry)) start place ⌝ }
 {
-    let rest = &file[from..];
+    let rest = &file[start + LEN * place..];
     let (bytes, _) = rest.split_first_chunk::<LEN>().unwrap();
     bytes
 }
@@ -61,12 +60,9 @@ impl<'a, const LEN: usize> Records<'a, LEN> {
         if place >= self.count {
             return None;
         }
-        let from = self.start + LEN * place;
         let file = self.file;
-        Some(Record {
-            bytes: bytes_from(file, from),
-            place,
-        })
+        let bytes = bytes_at(file, self.start, place);
+        Some(Record { bytes, place })
     }
 
     fn take_next(&mut self) -> Option<Record<'a, LEN>>
