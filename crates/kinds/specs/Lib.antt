@@ -1,0 +1,4 @@
+pub mod Phases
+pub mod Highest
+pub mod Halts
+pub mod Chain
