@@ -11,12 +11,11 @@ use lib.IntN.{ℤ, pos, negsuc, natAbs}
 use lib.Signed.{_<ℤ_, _≤ℤ_}
 use lib.Seq.{paste}
 use borrow.Author.Needs.{needs}
-use Rattle.std.specs.declared.option.Option.{Option}
 use Rattle.std.specs.declared.option.Option.the-variants.{Some, None}
 use Rattle.std.specs.Written.{decimal, signed}
 use Rattle.std.proofs.shelf.Lists.{set-split, set-append-right, append-assoc, drop-more, length-take-le, length-push, length-append, length-take, length-drop}
 use Rattle.std.proofs.shelf.Edits.{paste-all, paste-paste}
-use Rattle.std.proofs.shelf.Decimals.{decimal-step, decimal-digit}
+use Rattle.std.proofs.shelf.Decimals.{decimal-step}
 use Rattle.decimal.specs.Put.{put, placed, placedEnd}
 
 -- one byte

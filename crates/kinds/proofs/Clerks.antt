@@ -1,14 +1,14 @@
 -- The clerk's notes, with one event more.
-use mathlib.Core.Path.{_≡_, refl, sym, ap, subst, _∙_}
+use mathlib.Core.Path.{_≡_, refl, ap, _∙_}
 use mathlib.Core.Bool.{Bool, true, false, cond}
 use mathlib.Core.List.{List, [], _∷_, _++_}
-use Prim.Native.Nat.{ℕ, _+_, _-_, _≤_, _<_, min}
+use Prim.Native.Nat.{ℕ, _+_, _-_, _≤_, min}
 use native.Mathlib.Omega.{arith}
 use Rattle.std.proofs.shelf.Ways.{tells}
 use lib.Dec.{eqb, leb}
 use lib.ListN.{length}
 use Rattle.std.proofs.shelf.Lists.{length-push}
-use Rattle.std.proofs.shelf.Tests.{leb-true, leb-false, le-leb, lt-leb}
+use Rattle.std.proofs.shelf.Tests.{leb-true, leb-false, lt-leb}
 use Rattle.std.specs.declared.option.Option.{Option}
 use Rattle.std.specs.declared.option.Option.the-variants.{Some, None}
 use Rattle.records.specs.declared.record.Effect.{Effect}
@@ -18,7 +18,7 @@ use Rattle.kinds.specs.declared.halt_summary.Summary.{Summary}
 use Rattle.kinds.specs.declared.halt_summary.Summary.the-variants.{OverLong, Counted}
 use Rattle.kinds.specs.declared.halt_summary.HaltSummary.{HaltSummary}
 use Rattle.kinds.specs.declared.kind.Entry.{Entry}
-use Rattle.kinds.specs.Halts.{possible, counts, met, summed, summedUp, countsOf, summaryOf, Clerk, noted, walked, clerk, Tallies}
+use Rattle.kinds.specs.Halts.{counts, met, summed, summedUp, countsOf, summaryOf, Clerk, noted, walked, clerk, Tallies}
 
 walked-push : (k : Clerk) (es : List Entry) (e : Entry) → walked k (es ++ (e ∷ [])) ≡ noted (e .code .effect) (walked k es)
 walked-push k [] e = refl

@@ -7,7 +7,7 @@ use native.Mathlib.Omega.{arith}
 use native.Mathlib.Nat.{zero-add, suc-add}
 use lib.ListN.{length, take, drop, set}
 use Rattle.std.specs.Finite.{nth}
-use Rattle.std.specs.declared.option.Option.the-variants.{Some, None}
+use Rattle.std.specs.declared.option.Option.the-variants.{Some}
 
 pub nth-set-same : {A : Type 0} (xs : List A) (i : ℕ) (x : A) → i < length xs → nth (set xs i x) i ≡ Some x
 nth-set-same [] i x h = absurd (omega arith)

@@ -1,4 +1,4 @@
-use mathlib.Core.Path.{_≡_, sym, ap, _∙_}
+use mathlib.Core.Path.{sym, ap, _∙_}
 use mathlib.Core.List.{_++_}
 use Prim.Native.Nat.{_+_, _≤_}
 use native.Mathlib.Omega.{arith}
@@ -8,7 +8,6 @@ use mir.Syntax.{w32}
 use Rattle.std.specs.declared.option.Option.the-variants.{Some}
 use Rattle.std.specs.Written.{decimal, signed}
 use Rattle.std.proofs.shelf.Signed.{toZ-ofZ}
-use Rattle.decimal.specs.Put.{pair}
 use Rattle.decimal.proofs.Puts.{placed-fits, end-fits, placed-not, end-not, put-three, length-three}
 use Rattle.decimal.proofs.put_pair.Needs as need
 

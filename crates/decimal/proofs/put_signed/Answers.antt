@@ -1,7 +1,6 @@
-use mathlib.Core.Path.{sym, ap, refl, _∙_}
-use lib.ListN.{length}
+use mathlib.Core.Path.{sym, ap, _∙_}
 use Rattle.std.specs.declared.option.Option.the-variants.{Some}
-use Rattle.std.specs.Written.{decimal, signed}
+use Rattle.std.specs.Written.{signed}
 use Rattle.std.proofs.shelf.Signed.{toZ-ofZ}
 use mir.Syntax.{w32}
 use Rattle.decimal.proofs.Puts.{placed-fits, end-fits, placed-not, end-not}

@@ -1,7 +1,6 @@
 use mathlib.Core.Path.{sym, ap, refl, _∙_}
 use lib.ListN.{length}
 use Rattle.std.specs.declared.option.Option.the-variants.{Some}
-use Rattle.std.specs.Written.{decimal, signed}
 use Rattle.decimal.proofs.Puts.{placed-fits, end-fits, placed-not, end-not}
 use Rattle.decimal.proofs.put_text.Needs as need
 
