@@ -1,0 +1,4 @@
+pub mod FlatLayout
+pub mod FlatFills
+pub mod FlatUpdates
+pub mod FlatQueries

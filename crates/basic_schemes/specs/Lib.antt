@@ -1,0 +1,2 @@
+pub mod FlatPlan
+pub mod FlatRows

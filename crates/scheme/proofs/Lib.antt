@@ -1,0 +1,4 @@
+pub mod Writes
+pub mod Covering
+pub mod Standing
+pub mod Drawing
