@@ -10,7 +10,7 @@ use Rattle.records.specs.declared.record.Event.{Event}
 use Rattle.records.specs.Fields.{eventOf}
 use Rattle.records.specs.Parts.{part, fits}
 use Rattle.kinds.specs.declared.kind.Entry.{Entry}
-use Rattle.day.specs.Day.{entryOf, entryAt, firstEntries}
+use Rattle.day.specs.Day.{entryOf, firstEntries}
 
 -- the start of a section that has a record is the one told
 its-start : (t : Bool) (start count at : ℕ) → at < cond t count 0 → cond t start 0 ≡ start

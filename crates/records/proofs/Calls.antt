@@ -1,20 +1,17 @@
 -- Calls of a reader, one after the other.
 use mathlib.Core.Path.{_≡_, refl}
-use mathlib.Core.List.{List, [], _∷_}
 use mathlib.Core.Bool.{Bool, true, false, cond}
 use mathlib.Core.Logic.{_⊎_, inl, inr}
 use Prim.Native.Nat.{ℕ, zero, suc, _+_, _≤_, _<_}
 use lib.Dec.{leb}
 use native.Mathlib.Nat.{add-zero}
 use native.Mathlib.Omega.{arith}
-use denote.Ref.{now}
-use Rattle.std.specs.Finite.{nth}
 use Rattle.std.specs.declared.option.Option.{Option}
 use Rattle.std.specs.declared.option.Option.the-variants.{Some, None}
 use Rattle.std.proofs.shelf.Tests.{leb-true, leb-false}
 use Rattle.records.specs.declared.reader.Record.{Record}
 use Rattle.records.specs.declared.reader.Records.{Records}
-use Rattle.records.specs.Reading.{Answer, Next, Reads, Hands-out}
+use Rattle.records.specs.Reading.{Answer, Next, Hands-out}
 use Rattle.records.specs.Reading.Reads.{none, then}
 
 -- where a call leaves the reader: at the next place, or past the last

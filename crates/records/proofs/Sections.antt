@@ -1,17 +1,15 @@
 -- A loop over all the records of a section.
-use mathlib.Core.Path.{_≡_, refl, _∙_}
+use mathlib.Core.Path.{_≡_, _∙_}
 use mathlib.Core.List.{List}
-use mathlib.Core.Bool.{Bool, true, false, cond}
 use Prim.Native.Nat.{ℕ, _+_, _*_, _≤_, _<_}
 use lib.ListN.{length}
-use lib.Dec.{leb}
 use denote.Ref.{now}
 use Rattle.std.specs.declared.option.Option.{Option}
 use Rattle.std.specs.declared.option.Option.the-variants.{Some, None}
 use Rattle.std.proofs.shelf.Tests.{le-leb, lt-leb}
 use Rattle.records.specs.declared.reader.Record.{Record}
 use Rattle.records.specs.declared.reader.Records.{Records}
-use Rattle.records.specs.Parts.{part, fits}
+use Rattle.records.specs.Parts.{part}
 use Rattle.records.specs.Reading.{Over, Next}
 
 -- a reader over the records of a section that lies within the file, wherever it has come to

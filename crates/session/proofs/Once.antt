@@ -14,7 +14,7 @@ use Rattle.std.proofs.shelf.Tests.{false≢true}
 use Rattle.session.specs.declared.fault.FileFault.{FileFault}
 use Rattle.session.specs.declared.fault.FileFault.the-variants.{Length, Edition, Count, Sections, Code, Event, Time}
 use Rattle.records.specs.Fields.{headerOf}
-use Rattle.session.specs.Rules.{Whole, Edition-one, Few-codes, Few-events, Sections-lie, Headed, Well-formed, Good-code, Good-event, In-order, Codes-good, Events-good}
+use Rattle.session.specs.Rules.{Whole, Edition-one, Few-codes, Few-events, Sections-lie, Well-formed, Good-code, Good-event, In-order, Codes-good, Events-good}
 use Rattle.session.specs.First.{Least, First}
 use Rattle.session.specs.Opened.{First-refused}
 

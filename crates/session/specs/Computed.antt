@@ -1,4 +1,4 @@
--- The first fault of a file, computed check by check.
+-- The refusal of a file, computed check by check.
 use mathlib.Core.List.{List}
 use mathlib.Core.Bool.{Bool, false, cond, _&&_, _||_}
 use Prim.Native.Nat.{ℕ, zero, suc, _-_}
@@ -9,8 +9,7 @@ use Rattle.std.specs.declared.option.Option.{Option}
 use Rattle.std.specs.declared.option.Option.the-variants.{Some, None}
 use Rattle.std.specs.Options.{isSome, orOther}
 use Rattle.records.specs.Fields.{headerOf}
-use Rattle.session.specs.declared.fault.FileFault.{FileFault}
-use Rattle.session.specs.declared.fault.FileFault.the-variants.{Length, Edition, Count, Sections, Code, Event, Time}
+use Rattle.session.specs.Faults.{Refusal}
 use Rattle.session.specs.Rules.{codeAt, eventAt, codes-end, events-end}
 
 -- the tests of rules 1, 3 and 4
@@ -50,31 +49,31 @@ abbrev pub firstNot : (ℕ → Bool) → ℕ → Option ℕ
 firstNot p zero = None
 firstNot p (suc n) = orOther (firstNot p n) (cond (p n) None (Some n))
 
--- a check of the header: its fault where the test fails, else what the later checks find
-abbrev pub unless : Bool → FileFault → Option FileFault → Option FileFault
-unless t f rest = cond t rest (Some f)
+-- a check of the header: refused where the test fails, else as the later checks say
+abbrev pub unless : Bool → ℕ → ℕ → Option Refusal → Option Refusal
+unless t n k rest = cond t rest (Some (record { number = n; place = k }))
 
--- a check of records: the fault at the first bad place, else what the later checks find
-abbrev pub atFirst : Option ℕ → (ℕ → FileFault) → Option FileFault → Option FileFault
-atFirst None F rest = rest
-atFirst (Some k) F rest = Some (F k)
+-- a check of records: refused at the first bad place, else as the later checks say
+abbrev pub atFirst : Option ℕ → ℕ → Option Refusal → Option Refusal
+atFirst None n rest = rest
+atFirst (Some k) n rest = Some (record { number = n; place = k })
 
--- what the checks from the seventh, the sixth and the fifth on find
-abbrev pub in-times : List ℕ → Option FileFault
-in-times b = atFirst (firstNot (order? b) (headerOf b .events)) Time None
+-- the checks from the seventh, the sixth and the fifth on
+abbrev pub in-times : List ℕ → Option Refusal
+in-times b = atFirst (firstNot (order? b) (headerOf b .events)) 7 None
 
-abbrev pub in-events : List ℕ → Option FileFault
-in-events b = atFirst (firstNot (event? b) (headerOf b .events)) Event (in-times b)
+abbrev pub in-events : List ℕ → Option Refusal
+in-events b = atFirst (firstNot (event? b) (headerOf b .events)) 6 (in-times b)
 
-abbrev pub in-codes : List ℕ → Option FileFault
-in-codes b = atFirst (firstNot (code? b) (headerOf b .codes)) Code (in-events b)
+abbrev pub in-codes : List ℕ → Option Refusal
+in-codes b = atFirst (firstNot (code? b) (headerOf b .codes)) 5 (in-events b)
 
--- the first fault of a file, if it has one
-unfoldable pub firstFault : List ℕ → Option FileFault
-firstFault b =
-    unless (whole? b) (Length (length b))
-    (unless (eqb (headerOf b .edition) 1) Edition
-    (unless (few-codes? b) (Count 2)
-    (unless (few-events? b) (Count 4)
-    (unless (sections? b) Sections
+-- the refusal of a file, if it is refused: the number of the first check that fails, and its place
+unfoldable pub firstRefusal : List ℕ → Option Refusal
+firstRefusal b =
+    unless (whole? b) 1 (length b)
+    (unless (eqb (headerOf b .edition) 1) 2 0
+    (unless (few-codes? b) 3 2
+    (unless (few-events? b) 3 4
+    (unless (sections? b) 4 8
     (in-codes b)))))

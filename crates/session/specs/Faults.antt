@@ -26,6 +26,15 @@ faultPlace (Code k) = k
 faultPlace (Event k) = k
 faultPlace (Time k) = k
 
+-- a refusal: the number of the rule, and the place
+pub record Refusal : Type 0 where
+  pub number : ℕ
+  pub place : ℕ
+
+-- the refusal that a fault stands for
+abbrev pub refusalOf : FileFault → Refusal
+refusalOf f = record { number = faultNumber f; place = faultPlace f }
+
 -- what is wrong, in words
 abbrev pub faultCause : FileFault → List ℕ
 faultCause (Length n) = codes "bad length"

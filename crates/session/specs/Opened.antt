@@ -15,13 +15,14 @@ use Rattle.records.specs.declared.record.Event.{Event}
 use Rattle.records.specs.Fields.{headerOf, codeOf, eventOf}
 use Rattle.records.specs.Parts.{part, fits}
 use Rattle.session.specs.declared.fault.FileFault.{FileFault}
+use Rattle.session.specs.Faults.{Refusal, refusalOf}
 use Rattle.session.specs.declared.file.SessionFile.{SessionFile}
 use Rattle.session.specs.First.{First}
 
--- the fault of a refusal
-abbrev pub faultOf : {X : Type 0} → Result X FileFault → Option FileFault
-faultOf (Ok x) = None
-faultOf (Err f) = Some f
+-- the number and the place of the fault that came back, if one did
+abbrev pub refusalIn : {X : Type 0} → Result X FileFault → Option Refusal
+refusalIn (Ok x) = None
+refusalIn (Err f) = Some (refusalOf f)
 
 -- a fault refuses the file exactly when it is the file's first
 abbrev pub First-refused : {X : Type 0} → List ℕ → Result X FileFault → Type 0

@@ -8,8 +8,8 @@ ghost use Rattle.records.specs.Fields.{headerOf};
 ghost use Rattle.records.specs.Reading.{Over, Hands-out};
 ghost use Rattle.session.specs.Rules.{Well-formed};
 ghost use Rattle.session.specs.First.{First};
-ghost use Rattle.session.specs.Computed.{firstFault};
-ghost use Rattle.session.specs.Opened.{faultOf, First-refused, Accepted, codeFrom, eventFrom};
+ghost use Rattle.session.specs.Computed.{firstRefusal};
+ghost use Rattle.session.specs.Opened.{refusalIn, First-refused, Accepted, codeFrom, eventFrom};
 use crate::checks::check_codes;
 use crate::checks::check_counts;
 use crate::checks::check_edition;
@@ -50,7 +50,7 @@ fn checked(bytes: &[u8]) -> Result<Header, FileFault>
 pub fn open(bytes: &[u8]) -> Result<SessionFile<'_>, FileFault>
     ensures accepted { λ r. ⌜ Decides (isOk r) (Well-formed (now (bytes .entry))) ⌝ }
     ensures refused { λ r. ⌜ First-refused (now (bytes .entry)) r ⌝ }
-    ensures fault { λ r. ⌜ faultOf r ≡ firstFault (now (bytes .entry)) ⌝ }
+    ensures numbered { λ r. ⌜ refusalIn r ≡ firstRefusal (now (bytes .entry)) ⌝ }
     ensures file { λ r. ⌜ made r (Accepted (now (bytes .entry))) ⌝ }
 {
     let header = checked(bytes)?;

@@ -11,7 +11,7 @@ pub returns-in-Break-header : need.returns-in-Break-header
 returns-in-Break-header c =
     let p = err-from-errBy (c .from-residual .result) (c .from-residual .ensures .1) in
     let first = c .in-Break-header .ensures tt .first in
-    rw (p .1, p .2) (record { accepted = decides {X = ℕ} _ (Err _) first; refused = refuses _ (Err _) first; fault = told {X = ℕ} _ (Err _) first; file = tt })
+    rw (p .1, p .2) (record { accepted = decides {X = ℕ} _ (Err _) first; refused = refuses _ (Err _) first; numbered = told {X = ℕ} _ (Err _) first; file = tt })
 
 pub returns : need.returns
 returns c =
@@ -20,6 +20,6 @@ returns c =
     record {
       accepted = decides {X = ℕ} _ (Ok 0) (whole .0);
       refused = refuses _ (Ok _) (whole .0);
-      fault = told {X = ℕ} _ (Ok 0) (whole .0);
+      numbered = told {X = ℕ} _ (Ok 0) (whole .0);
       file = record { its-bytes = refl; its-header = whole .1; codes-within = le-leb _ _ (lie .codes-fit); events-within = le-leb _ _ (lie .events-fit) };
     }
