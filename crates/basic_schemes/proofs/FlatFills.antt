@@ -1,21 +1,21 @@
 -- One cell more, one row more, and a whole table.
 use mathlib.Core.Path.{_≡_, refl, sym, ap, _∙_}
-use mathlib.Core.List.{List, [], _∷_}
+use mathlib.Core.List.{List}
 use mathlib.Core.Logic.{_⊎_, inl, inr, ⊎-elim}
-use Prim.Native.Nat.{ℕ, zero, suc, _+_, _-_, _*_, _/_, _<_, _≤_}
+use Prim.Native.Nat.{ℕ, _+_, _-_, _<_, _≤_}
 use native.Mathlib.Omega.{arith}
 use native.Mathlib.Nat.{zero-add}
 use lib.ListN.{length, take, set}
 use Rattle.std.specs.Finite.{nth}
-use Rattle.std.specs.declared.option.Option.the-variants.{Some, None}
-use Rattle.std.proofs.shelf.Tests.{cases-eq, cases-lt}
+use Rattle.std.specs.declared.option.Option.the-variants.{Some}
+use Rattle.std.proofs.shelf.Tests.{cases-eq}
 use Rattle.semigroup.specs.Product.{over}
 use Rattle.semigroup.proofs.Places.{nth-set-same, nth-set-other, nth-take, take-same}
 use Rattle.semigroup.proofs.Products.{over-one, over-more}
 use Rattle.scheme.specs.Table.{Filled}
 use Rattle.basic_schemes.specs.FlatPlan.{rowStart, flatPlan}
 use Rattle.basic_schemes.specs.FlatRows.{Row-holds, Redone}
-use Rattle.basic_schemes.proofs.FlatLayout.{row-none, row-more, row-past, items-before, rows-end, Place, place, place-span}
+use Rattle.basic_schemes.proofs.FlatLayout.{row-none, row-more, row-past, items-before, rows-end, place, place-span}
 
 -- the rows below g hold their products; the items and the cells from row g on are as they were
 pub record Rows {A : Type 0} (op : A → A → A) (n g : ℕ) (before after : List A) : Type 0 where
@@ -27,16 +27,16 @@ module _ {A : Type 0} (op : A → A → A) (n : ℕ) where
   redone-none g a t = record { holds = λ before i x y. absurd (omega arith); kept = λ c out. refl }
 
   -- one cell more: the run without its last event, and that event
-  pub redone-more : (assoc : (a b c : A) → op (op a b) c ≡ op a (op b c)) (g a b : ℕ) (t t′ : List A) (x y : A) → 0 < g → a ≤ b → b + g < n → rowStart n g + b < length t′
+  pub redone-more : (assoc : (a b c : A) → op (op a b) c ≡ op a (op b c)) (g a b k : ℕ) (t t′ : List A) (x y z : A) → 0 < g → a ≤ b → b + g < n → rowStart n g + b < length t′
       → nth t′ (rowStart n (g - 1) + b) ≡ Some y → nth t′ (b + g) ≡ Some x
-      → Redone op n g a b t t′ → Redone op n g a (b + 1) t (set t′ (rowStart n g + b) (op y x))
-  redone-more assoc g a b t t′ x y up l m room shorter last r =
+      → Redone op n g a b t t′ → k ≡ rowStart n g + b → z ≡ op y x → Redone op n g a (b + 1) t (set t′ k z)
+  redone-more assoc g a b k t t′ x y z up l m room shorter last r place value =
       let past = items-before n g up (omega arith) in
       let lower = row-past n (g - 1) g b (omega arith) (omega arith) (omega arith) in
       let was : nth t (rowStart n (g - 1) + b) ≡ Some y = sym (r .kept _ (λ i e u v. omega arith)) ∙ shorter in
       let item : nth (take n t) (b + g) ≡ Some x = nth-take n t (b + g) m ∙ sym (r .kept _ (λ i e u v. omega arith)) ∙ last in
       let at : b + (g - 1) + 1 ≡ b + g = omega arith in
-      record {
+      rw (place, value) (record {
         holds = λ held i u v. ⊎-elim
             (λ (e : i ≡ b).
             let less : over op (take n t) b (b + g) ≡ Some y = rw at at (sym (held b l (omega arith)) ∙ was) in
@@ -44,7 +44,7 @@ module _ {A : Type 0} (op : A → A → A) (n : ℕ) where
             (λ (e : i ≡ b → ⊥). nth-set-other t′ (rowStart n g + b) (rowStart n g + i) (op y x) (λ s. omega arith) ∙ r .holds (λ k z w. held k z (omega arith)) i u (omega arith))
             (cases-eq i b);
         kept = λ c out. nth-set-other t′ (rowStart n g + b) c (op y x) (λ s. out b s l (omega arith)) ∙ r .kept c (λ i e u v. out i e u (omega arith));
-      }
+      })
 
   -- row 0 is the items
   pub item-holds : (t : List A) (i : ℕ) → i < n → Row-holds op n (take n t) t 0 i

@@ -1,14 +1,13 @@
 -- Rows, cells and intervals of a table of every run, and that its plan is sound.
-use mathlib.Core.Path.{_≡_, refl, sym, ap, _∙_}
-use mathlib.Core.List.{List, [], _∷_}
-use mathlib.Core.Logic.{_⊎_, inl, inr, ⊎-elim}
+use mathlib.Core.Path.{_≡_, sym, ap, _∙_}
+use mathlib.Core.Logic.{⊎-elim}
 use Prim.Native.Nat.{ℕ, zero, suc, _+_, _-_, _*_, _/_, _<_, _≤_}
 use native.Mathlib.Omega.{arith}
 use native.Mathlib.Nat.{mul-comm, add-mul, mul-add, one-mul, mul-one, zero-mul}
 use native.Mathlib.Numerals.{add-one}
 use Rattle.std.proofs.shelf.Bits.{mul-le}
 use Rattle.std.proofs.shelf.Tests.{lt-ltb, le-ltb, cond-true, cond-false, cases-lt, cases-eq}
-use Rattle.scheme.specs.Plan.{Plan, Interval, Covers, done, goes, Sound, single}
+use Rattle.scheme.specs.Plan.{Covers, done, goes, Sound, single}
 use Rattle.basic_schemes.specs.FlatPlan.{rowStart, runFrom, locate, flatPlan}
 
 -- ---- triangular numbers

@@ -7,7 +7,7 @@ use lib.ListN.{length, set}
 use Rattle.std.specs.Finite.{nth}
 use Rattle.std.specs.declared.option.Option.the-variants.{Some}
 use Rattle.scheme.specs.Plan.{Interval}
-use Rattle.scheme.specs.Calls.{Drawn, pieceOf}
+use Rattle.scheme.specs.Calls.{Drawn}
 use Rattle.scheme.specs.declared.Piece.{Piece}
 use Rattle.scheme.proofs.Drawing.{drawn-one}
 use Rattle.basic_schemes.specs.FlatPlan.{rowStart, flatPlan}

@@ -2,22 +2,20 @@
 use mathlib.Core.Path.{_≡_, refl, sym, ap, _∙_}
 use mathlib.Core.List.{List, [], _∷_}
 use mathlib.Core.Logic.{_⊎_, inl, inr, ⊎-elim}
-use Prim.Native.Nat.{ℕ, zero, suc, _+_, _-_, _*_, _/_, min, _<_, _≤_}
+use Prim.Native.Nat.{ℕ, zero, suc, _+_, _-_, min, _<_, _≤_}
 use native.Mathlib.Omega.{arith}
 use native.Mathlib.Nat.{zero-add}
 use lib.ListN.{length, take, set}
 use Rattle.std.specs.Finite.{nth}
-use Rattle.std.specs.declared.option.Option.the-variants.{Some, None}
 use Rattle.std.proofs.shelf.Tests.{cases-eq, cases-lt}
 use Rattle.semigroup.specs.Product.{over}
 use Rattle.semigroup.proofs.Places.{nth-set-same, nth-set-other, take-same}
 use Rattle.semigroup.proofs.Products.{over-set-out}
-use Rattle.scheme.specs.Plan.{Misses, Contains}
-use Rattle.scheme.specs.Table.{As-built, due}
+use Rattle.scheme.specs.Table.{As-built}
 use Rattle.scheme.specs.Calls.{Renewed}
-use Rattle.basic_schemes.specs.FlatPlan.{rowStart, runFrom, locate, flatPlan}
+use Rattle.basic_schemes.specs.FlatPlan.{rowStart, locate, flatPlan}
 use Rattle.basic_schemes.specs.FlatRows.{Row-holds, Redone}
-use Rattle.basic_schemes.proofs.FlatLayout.{row-none, row-past, items-before, item-at, interval-at, Place, place, place-span, cell-below, cells-enough}
+use Rattle.basic_schemes.proofs.FlatLayout.{row-none, row-past, items-before, interval-at, place, place-span, cell-below}
 use Rattle.basic_schemes.proofs.FlatFills.{item-holds}
 
 -- a later prefix of a changed list

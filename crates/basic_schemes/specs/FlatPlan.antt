@@ -1,20 +1,20 @@
 -- The plan of a table of every run. Row g, from 0, has the runs of g + 1 events, one for each first event.
-use mathlib.Core.List.{List, [], _∷_}
+use mathlib.Core.List.{[], _∷_}
 use mathlib.Core.Bool.{cond}
 use Prim.Native.Nat.{ℕ, zero, suc, _+_, _-_, _*_, _/_}
 use lib.Dec.{ltb}
 use Rattle.scheme.specs.Plan.{Plan, Interval}
 
 -- where row g begins, over n events
-unfoldable pub rowStart : ℕ → ℕ → ℕ
+unfoldable pub rowStart : (n g : ℕ) → ℕ
 rowStart n g = g * n - g * (g - 1) / 2
 
 -- the run from i to i + g
-abbrev pub runFrom : ℕ → ℕ → Interval
+abbrev pub runFrom : (i g : ℕ) → Interval
 runFrom i g = record { from = i; to = i + g + 1 }
 
 -- the interval of the c-th cell from row g on, where row g has w cells and at most k rows follow it
-unfoldable pub locate : ℕ → ℕ → ℕ → ℕ → Interval
+unfoldable pub locate : (k g w c : ℕ) → Interval
 locate zero g w c = runFrom c g
 locate (suc k) g w c = cond (ltb c w) (runFrom c g) (locate k (g + 1) (w - 1) (c - w))
 

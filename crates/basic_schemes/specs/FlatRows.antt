@@ -15,7 +15,7 @@ pub record Row (n g room : ℕ) : Type 0 where
   pub fits : flatPlan .part n .size ≤ room
 
 -- row g's cell for i holds the product of the run from i to i + g
-abbrev pub Row-holds : {A : Type 0} → (A → A → A) → ℕ → List A → List A → ℕ → ℕ → Type 0
+abbrev pub Row-holds : {A : Type 0} (op : A → A → A) (n : ℕ) (items t : List A) (g i : ℕ) → Type 0
 Row-holds op n items t g i = nth t (rowStart n g + i) ≡ over op items i (i + g + 1)
 
 -- row g's cells from a up to b hold their products, if those of the row before do; all other cells are as they were

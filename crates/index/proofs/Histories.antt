@@ -1,14 +1,11 @@
 -- One call on a table that stands for a list, and whole histories.
 use mathlib.Core.Path.{_≡_, refl, sym, ap, _∙_}
-use mathlib.Core.List.{List, [], _∷_}
-use mathlib.Core.Bool.{cond}
+use mathlib.Core.List.{List}
 use Prim.Native.Nat.{ℕ, _+_, _^_, _<_, _≤_}
 use native.Mathlib.Omega.{arith}
-use lib.Dec.{ltb}
-use lib.ListN.{length, take, set}
+use lib.ListN.{length, take}
 use Rattle.std.specs.Finite.{nth}
-use Rattle.std.specs.declared.option.Option.{Option}
-use Rattle.std.specs.declared.option.Option.the-variants.{Some, None}
+use Rattle.std.specs.declared.option.Option.the-variants.{None}
 use Rattle.std.specs.declared.result.Result.{Result}
 use Rattle.std.specs.declared.result.Result.the-variants.{Ok, Err}
 use Rattle.std.proofs.shelf.Tests.{lt-ltb, le-ltb}
@@ -19,9 +16,9 @@ use Rattle.scheme.specs.declared.Answer.{Answer}
 use Rattle.scheme.proofs.Covering.{covers-product}
 use Rattle.scheme.proofs.Standing.{filled-stands, stands-room, renewed-stands}
 use Rattle.index.specs.declared.fault.IndexFault.{IndexFault}
-use Rattle.index.specs.Refusals.{refusalOf, before, cellsTold, tableRefusal, runRefusal, itemRefusal}
-use Rattle.index.specs.Calls.{Queried, Updated, Answered, Amended, Denied, Granted}
-use Rattle.index.specs.History.{Call, query, update, Reply, History, none, queries, updates, becomes, finally, Faithful, Kept, Lasting}
+use Rattle.index.specs.Refusals.{firstOf, tableRefusal, runRefusal, itemRefusal}
+use Rattle.index.specs.Calls.{Queried, Updated, Answered, Amended}
+use Rattle.index.specs.History.{Call, update, Reply, History, none, queries, updates, becomes, finally, Faithful, Lasting}
 use Rattle.index.proofs.Refusing.{both-passed, room-table, run-passed, item-passed, item-denied}
 
 module _ {A : Type 0} (op : A → A → A) (assoc : (a b c : A) → op (op a b) c ≡ op a (op b c)) (plan : Plan) (sound : Sound plan) (n : ℕ) (some : 0 < n) (few : n ≤ 65536)
@@ -48,7 +45,7 @@ module _ {A : Type 0} (op : A → A → A) (assoc : (a b c : A) → op (op a b) 
         },
       )
   query-answered items table i j trace (Err fault) trace′ s q = record {
-    reason = ap (λ o. before o (runRefusal plan n i j (length trace))) (sym (long items table s)) ∙ q .reason;
+    reason = ap (λ o. firstOf o (runRefusal plan n i j (length trace))) (sym (long items table s)) ∙ q .reason;
     unchanged = q .unchanged;
   }
 
@@ -58,7 +55,7 @@ module _ {A : Type 0} (op : A → A → A) (assoc : (a b c : A) → op (op a b) 
   update-amended items table p x (Ok _) table′ s u =
       (both-passed _ _ (u .0) .1, renewed-stands op plan sound n some few items table table′ p x s (u .1), u .1 .past)
   update-amended items table p x (Err fault) table′ s u = record {
-    reason = ap (λ o. before o (itemRefusal n p)) (sym (long items table s)) ∙ u .reason;
+    reason = ap (λ o. firstOf o (itemRefusal n p)) (sym (long items table s)) ∙ u .reason;
     unchanged = u .unchanged;
   }
 

@@ -1,16 +1,15 @@
 -- What follows where no refusal is due, and why a table that stands is never too short.
-use mathlib.Core.Path.{_≡_, refl, sym, ap, _∙_}
-use mathlib.Core.Bool.{Bool, true, false, cond, _||_}
+use mathlib.Core.Path.{_≡_, refl, ap, _∙_}
+use mathlib.Core.Bool.{Bool, true, false, cond}
 use Prim.Native.Nat.{ℕ, _+_, _^_, _<_, _≤_}
 use native.Mathlib.Omega.{arith}
-use lib.Dec.{eqb, leb, ltb}
 use lib.ListN.{length}
 use Rattle.std.specs.declared.option.Option.{Option}
 use Rattle.std.specs.declared.option.Option.the-variants.{Some, None}
 use Rattle.std.proofs.shelf.Tests.{ltb-false, leb-true, leb-false, eqb-false, le-ltb, ne-eqb, or-parts, or-from, cond-false}
 use Rattle.scheme.specs.Plan.{Plan}
-use Rattle.scheme.specs.Calls.{capped, Room, Run}
-use Rattle.index.specs.Refusals.{Refusal, before, cellsTold, tableRefusal, runRefusal, itemRefusal}
+use Rattle.scheme.specs.Calls.{Room}
+use Rattle.index.specs.Refusals.{Refusal, firstOf, cellsTold, tableRefusal, runRefusal, itemRefusal}
 
 -- where a check does not refuse, its condition is false, and the next check decides
 passed : {X : Type 0} (b : Bool) (x : X) (later : Option X) → cond b (Some x) later ≡ None → (b ≡ false) × (later ≡ None)
@@ -22,7 +21,13 @@ stopped : {X : Type 0} (b : Bool) (x r : X) → cond b (Some x) None ≡ Some r 
 stopped true x r e = refl
 stopped false x r e = absurd (let z : _≡_ {A = ℕ} 0 1 = cc in omega arith)
 
-pub both-passed : (first later : Option Refusal) → before first later ≡ None → (first ≡ None) × (later ≡ None)
+pub stopped-first : (first later : Option Refusal) (r : Refusal) → first ≡ Some r → firstOf first later ≡ Some r
+stopped-first first later r e = ap (λ o. firstOf o later) e
+
+pub passes-both : (first later : Option Refusal) → first ≡ None → later ≡ None → firstOf first later ≡ None
+passes-both first later e f = ap (λ o. firstOf o later) e ∙ f
+
+pub both-passed : (first later : Option Refusal) → firstOf first later ≡ None → (first ≡ None) × (later ≡ None)
 both-passed None later e = (refl, e)
 both-passed (Some r) later e = absurd (let z : _≡_ {A = ℕ} 0 1 = cc in omega arith)
 

@@ -24,14 +24,14 @@ pub record Denied {X : Type 0} (due : Option Refusal) (fault : IndexFault) (was 
 
 -- ---- on any table
 
--- a query of the run from i to j: the pieces' cells are combined, whatever they hold
-abbrev pub Queried : {A : Type 0} → (A → A → A) → Plan → ℕ → List A → ℕ → ℕ → List Piece → Result (Answer A) IndexFault → List Piece → Type 0
+-- a query of the run from i to j is refused, or the pieces' cells are combined, whatever they hold
+abbrev pub Queried : {A : Type 0} (op : A → A → A) (plan : Plan) (n : ℕ) (table : List A) (i j : ℕ) (trace : List Piece) (reply : Result (Answer A) IndexFault) (trace′ : List Piece) → Type 0
 Queried op plan n table i j trace (Ok answer) trace′ =
     (queryRefusal plan n (length table) i j (length trace) ≡ None) × Drawn op (plan .part n) (plan .pieces n i (j + 1)) table trace trace′ answer
 Queried op plan n table i j trace (Err fault) trace′ = Denied (queryRefusal plan n (length table) i j (length trace)) fault trace trace′
 
--- an update of item p to x
-abbrev pub Updated : {A : Type 0} → (A → A → A) → Plan → ℕ → List A → ℕ → A → Result (Unit {0}) IndexFault → List A → Type 0
+-- an update of item p to x is refused, or made as far as that is fixed
+abbrev pub Updated : {A : Type 0} (op : A → A → A) (plan : Plan) (n : ℕ) (table : List A) (p : ℕ) (x : A) (reply : Result (Unit {0}) IndexFault) (table′ : List A) → Type 0
 Updated op plan n table p x (Ok _) table′ = (updateRefusal plan n (length table) p ≡ None) × Renewed op plan n p x table table′
 Updated op plan n table p x (Err fault) table′ = Denied (updateRefusal plan n (length table) p) fault table table′
 
@@ -46,21 +46,22 @@ pub record Granted {A : Type 0} (op : A → A → A) (plan : Plan) (n : ℕ) (it
   pub drawn : Drawn op (plan .part n) (plan .pieces n i (j + 1)) table trace trace′ answer
 
 -- a query is refused by 10 or 11, or granted
-abbrev pub Answered : {A : Type 0} → (A → A → A) → Plan → ℕ → List A → List A → ℕ → ℕ → List Piece → Result (Answer A) IndexFault → List Piece → Type 0
+abbrev pub Answered : {A : Type 0} (op : A → A → A) (plan : Plan) (n : ℕ) (items table : List A) (i j : ℕ) (trace : List Piece) (reply : Result (Answer A) IndexFault) (trace′ : List Piece) → Type 0
 Answered op plan n items table i j trace (Ok answer) trace′ = (runRefusal plan n i j (length trace) ≡ None) × Granted op plan n items table i j trace trace′ answer
 Answered op plan n items table i j trace (Err fault) trace′ = Denied (runRefusal plan n i j (length trace)) fault trace trace′
 
--- so it is for every list that the table stands for, where fewer than 2^40 cells are told
-abbrev pub Answered-if-standing : {A : Type 0} → (A → A → A) → Plan → ℕ → List A → ℕ → ℕ → List Piece → Result (Answer A) IndexFault → List Piece → Type 0
+-- so a query is, for every list that the table stands for, where fewer than 2^40 cells are told
+abbrev pub Answered-if-standing : {A : Type 0} (op : A → A → A) (plan : Plan) (n : ℕ) (table : List A) (i j : ℕ) (trace : List Piece) (reply : Result (Answer A) IndexFault) (trace′ : List Piece) → Type 0
 Answered-if-standing {A} op plan n table i j trace reply trace′ =
     (items : List A) → plan .part n .size < 2 ^ 40 → Stands op plan n items table → Answered op plan n items table i j trace reply trace′
 
 -- an update is refused by 10, or the table then stands for the list with x at p, and its cells past the plan's are as they were
-abbrev pub Amended : {A : Type 0} → (A → A → A) → Plan → ℕ → List A → List A → ℕ → A → Result (Unit {0}) IndexFault → List A → Type 0
+abbrev pub Amended : {A : Type 0} (op : A → A → A) (plan : Plan) (n : ℕ) (items table : List A) (p : ℕ) (x : A) (reply : Result (Unit {0}) IndexFault) (table′ : List A) → Type 0
 Amended op plan n items table p x (Ok _) table′ =
     (itemRefusal n p ≡ None) × Stands op plan n (set items p x) table′ × ((c : ℕ) → plan .part n .size ≤ c → nth table′ c ≡ nth table c)
 Amended op plan n items table p x (Err fault) table′ = Denied (itemRefusal n p) fault table table′
 
-abbrev pub Amended-if-standing : {A : Type 0} → (A → A → A) → Plan → ℕ → List A → ℕ → A → Result (Unit {0}) IndexFault → List A → Type 0
+-- and so an update is, for every list that the table stands for
+abbrev pub Amended-if-standing : {A : Type 0} (op : A → A → A) (plan : Plan) (n : ℕ) (table : List A) (p : ℕ) (x : A) (reply : Result (Unit {0}) IndexFault) (table′ : List A) → Type 0
 Amended-if-standing {A} op plan n table p x reply table′ =
     (items : List A) → plan .part n .size < 2 ^ 40 → Stands op plan n items table → Amended op plan n items table p x reply table′

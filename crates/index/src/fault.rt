@@ -7,13 +7,13 @@ use scheme::EventNo;
 /// A refusal of an index.
 #[derive(Clone, Copy)]
 pub enum IndexFault {
-    /// No events, or more than 65,536.
+    /// 8: no events, or more than 65,536.
     EventCount { n: u32 },
-    /// The table has fewer cells than the scheme tells, or 2^40 are told.
+    /// 9: the table has fewer cells than the scheme tells, or 2^40 are told.
     ShortTable { cells: u64 },
-    /// The run ends before it begins or past the last event, or there is no such event.
+    /// 10: the run ends before it begins or past the last event, or there is no such event.
     OutOfRange { event: EventNo },
-    /// The trace has fewer places than the run has pieces.
+    /// 11: the trace has fewer places than the run has pieces.
     ShortTrace { pieces: u32 },
 }
 

@@ -1,1 +1,2 @@
 pub mod VastSound
+pub mod Replaced

@@ -1,6 +1,6 @@
 -- A plan with more cells than can be counted.
 use mathlib.Core.Bool.{cond}
-use Prim.Native.Nat.{ℕ, _+_, _^_}
+use Prim.Native.Nat.{_+_, _^_}
 use lib.Dec.{ltb}
 use Rattle.scheme.specs.Plan.{Plan, single}
 use Rattle.basic_schemes.specs.FlatPlan.{flatPlan}

@@ -3,4 +3,5 @@
 mod ends;
 #[cfg(test)]
 mod tests;
+pub mod usage;
 mod vast;

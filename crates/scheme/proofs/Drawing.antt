@@ -1,17 +1,16 @@
 -- Answers drawn from few cells.
-use mathlib.Core.Path.{_≡_, refl, sym, ap, _∙_}
+use mathlib.Core.Path.{_≡_, refl, sym, ap}
 use mathlib.Core.List.{List, [], _∷_, map}
-use Prim.Native.Nat.{ℕ, _+_, _<_, _≤_}
+use Prim.Native.Nat.{ℕ, _≤_}
 use native.Mathlib.Omega.{arith}
 use lib.ListN.{length, set}
 use Rattle.std.specs.Finite.{nth}
-use Rattle.std.specs.declared.option.Option.the-variants.{Some, None}
+use Rattle.std.specs.declared.option.Option.the-variants.{Some}
 use Rattle.semigroup.specs.Product.{product}
 use Rattle.scheme.specs.Plan.{Part}
-use Rattle.scheme.specs.Table.{Written, pick, picked}
+use Rattle.scheme.specs.Table.{pick}
 use Rattle.scheme.specs.Calls.{Drawn, pieceOf}
 use Rattle.scheme.specs.declared.Piece.{Piece}
-use Rattle.scheme.specs.declared.Answer.{Answer}
 use Rattle.scheme.proofs.Writes.{written-none, written-more}
 
 -- an answer drawn from one cell

@@ -1,21 +1,20 @@
 -- Tables that stand for a list, under any sound plan.
-use mathlib.Core.Path.{_≡_, refl, sym, ap, _∙_}
+use mathlib.Core.Path.{_≡_, sym, _∙_}
 use mathlib.Core.Logic.{_⊎_, inl, inr, ⊎-elim}
 use mathlib.Core.List.{List, [], _∷_}
-use Prim.Native.Nat.{ℕ, zero, suc, _+_, _-_, _<_, _≤_}
+use Prim.Native.Nat.{ℕ, zero, suc, _-_, _<_, _≤_}
 use native.Mathlib.Omega.{arith}
 use native.Mathlib.Nat.{zero-add}
 use lib.ListN.{length, take, drop, set}
 use Rattle.std.specs.Finite.{nth}
-use Rattle.std.specs.declared.option.Option.{Option}
-use Rattle.std.specs.declared.option.Option.the-variants.{Some, None}
+use Rattle.std.specs.declared.option.Option.the-variants.{Some}
 use Rattle.std.proofs.shelf.Lists.{length-set, length-take-le, length-drop, take-all}
 use Rattle.std.proofs.shelf.Tests.{cases-lt}
-use Rattle.semigroup.specs.Product.{product, run, over}
+use Rattle.semigroup.specs.Product.{run, over}
 use Rattle.semigroup.proofs.Places.{take-same}
 use Rattle.semigroup.proofs.Products.{product-some, over-one, over-set-out}
-use Rattle.scheme.specs.Plan.{Interval, Part, Plan, Sound, Contains, Misses}
-use Rattle.scheme.specs.Table.{Filled, Stands, due}
+use Rattle.scheme.specs.Plan.{Interval, Plan, Sound, Contains, Misses}
+use Rattle.scheme.specs.Table.{Filled, Stands}
 use Rattle.scheme.specs.Calls.{Renewed}
 
 -- a run that is not empty has a product

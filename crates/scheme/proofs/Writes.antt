@@ -1,7 +1,7 @@
 -- Writes that follow one another, writes to a part of a table, and parts that stay as they are.
-use mathlib.Core.Path.{_≡_, refl, sym, ap, _∙_}
-use mathlib.Core.Logic.{_⊎_, inl, inr, ⊎-elim}
-use mathlib.Core.List.{List, [], _∷_, _++_}
+use mathlib.Core.Path.{_≡_, refl, sym, _∙_}
+use mathlib.Core.Logic.{⊎-elim}
+use mathlib.Core.List.{List, _++_}
 use Prim.Native.Nat.{ℕ, _+_, _-_, _<_, _≤_}
 use native.Mathlib.Omega.{arith}
 use native.Mathlib.Nat.{zero-add, add-zero}
@@ -9,7 +9,7 @@ use lib.ListN.{length, take, drop, set, length-take, length-drop, length-append}
 use borrow.Rule.Slice.PartMut.{putMid}
 use Rattle.std.specs.Finite.{nth}
 use Rattle.std.specs.declared.option.Option.{Option}
-use Rattle.std.specs.declared.option.Option.the-variants.{Some, None}
+use Rattle.std.specs.declared.option.Option.the-variants.{Some}
 use Rattle.std.proofs.shelf.Lists.{length-take-le}
 use Rattle.std.proofs.shelf.Tests.{cases-lt, cases-eq}
 use Rattle.semigroup.proofs.Places.{nth-set-same, nth-set-other, nth-take, nth-drop, nth-left, nth-right, take-same}
@@ -39,7 +39,7 @@ module _ {A : Type 0} (value : ℕ → Option A) (at : ℕ) (before : List A) wh
       → value k ≡ Some v → Written (λ c. value (k + c)) (n - k) (at + k) before (set t (at + k) v)
   written-less n m k em t v f room low e = record {
     holds = λ c h. ⊎-elim
-        (λ (same : c ≡ 0). rw (same, add-zero, add-zero) (nth-set-same t (at + k) v room ∙ sym e))
+        (λ (same : c ≡ 0). rw (same, add-zero (at + k), add-zero k) (nth-set-same t (at + k) v room ∙ sym e))
         (λ (other : c ≡ 0 → ⊥).
         let place : at + k + c ≡ at + m + (c - 1) = omega (arith, other) in
         let next : k + c ≡ m + (c - 1) = omega (arith, other) in

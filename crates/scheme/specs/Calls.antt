@@ -6,10 +6,8 @@ use lib.ListN.{length, take, set}
 use Rattle.std.specs.Finite.{nth}
 use Rattle.std.specs.declared.option.Option.the-variants.{Some}
 use Rattle.semigroup.specs.Product.{product}
-use Rattle.scheme.specs.Plan.{Interval, Part, Plan, Contains, Misses}
+use Rattle.scheme.specs.Plan.{Part, Plan, Contains, Misses}
 use Rattle.scheme.specs.Table.{Written, due, As-built, picked}
-use Rattle.scheme.specs.declared.EventNo.{EventNo}
-use Rattle.scheme.specs.declared.CellNo.{CellNo}
 use Rattle.scheme.specs.declared.Piece.{Piece}
 use Rattle.scheme.specs.declared.Answer.{Answer}
 
@@ -46,9 +44,9 @@ pub record Drawn {A : Type 0} (op : A → A → A) (p : Part) (cells : List ℕ)
   pub counted : answer .combinations + 1 ≡ length cells
   pub traced : Written (nth (map (pieceOf p) cells)) (length cells) 0 before after
 
--- what a cell other than p, with p in its interval, holds after item p became x: its new product if the table was as built.
--- On any other table it is not fixed
-abbrev pub Not-fixed-unless-built : {A : Type 0} → (A → A → A) → Plan → ℕ → ℕ → A → List A → List A → ℕ → Type 0
+-- what cell c, with p in its interval, holds after item p became x: its new product if the table was as built;
+-- on any other table what it holds is not fixed, unless it is cell p
+abbrev pub Not-fixed-unless-built : {A : Type 0} (op : A → A → A) (plan : Plan) (n p : ℕ) (x : A) (before after : List A) (c : ℕ) → Type 0
 Not-fixed-unless-built op plan n p x before after c = As-built op plan n before → nth after c ≡ due op (set (take n before) p x) (plan .part n .span) c
 
 -- item p became x: cell p holds x, the cells with p in their interval are renewed, and all others are as they were

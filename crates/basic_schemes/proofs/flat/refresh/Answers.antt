@@ -25,11 +25,11 @@ loop-first-again g c =
     let t = c .loop-first .table in
     let n = c .args .n in
     let room = cells-enough n in
-    simp (c .cell-of-in-loop-first .ensures .place, c .combine .ensures .combined)
-    (redone-more (g .T·Semigroup .op) n (g .T·Semigroup·met .associative) (c .args .gap) (c .args .start) (c .loop-first .first) (c .args .table .now) t (c .index-table-first .result) (c .index-table-cell-of .result)
+    redone-more (g .T·Semigroup .op) n (g .T·Semigroup·met .associative) (c .args .gap) (c .args .start) (c .loop-first .first) _ (c .args .table .now) t (c .index-table-first .result) (c .index-table-cell-of .result) _
     (omega arith) (omega arith) (omega arith) (omega arith)
     (ap (nth t) (sym (c .cell-of .ensures .place)) ∙ nth-read t _ (c .cell-of .result) _ refl (omega arith) (c .index-table-cell-of .is))
-    (nth-read t _ (c .loop-first .first + c .args .gap) _ refl (omega arith) (c .index-table-first .is)) (c .loop-first .inv))
+    (nth-read t _ (c .loop-first .first + c .args .gap) _ refl (omega arith) (c .index-table-first .is)) (c .loop-first .inv)
+    (c .cell-of-in-loop-first .ensures .place) (c .combine .ensures .combined)
 
 pub returns : need.returns
 returns g c =

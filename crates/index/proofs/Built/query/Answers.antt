@@ -1,9 +1,10 @@
-use mathlib.Core.Path.{_≡_, refl, ap, _∙_}
+use mathlib.Core.Path.{refl}
 use lib.ListN.{length}
 use Rattle.std.proofs.shelf.Results.{err-from-errBy}
 use Rattle.std.specs.declared.result.Result.the-variants.{Ok, Err}
-use Rattle.index.specs.Refusals.{before, queryRefusal, runRefusal}
+use Rattle.index.specs.Refusals.{tableRefusal, runRefusal, queryRefusal}
 use Rattle.index.specs.Calls.{Denied}
+use Rattle.index.proofs.Refusing.{stopped-first, passes-both}
 use Rattle.index.proofs.Histories.{query-answered}
 use Rattle.index.proofs.Built.query.Needs as need
 
@@ -18,7 +19,7 @@ returns-in-Break-check-table g c =
     let i = c .args .i .0 in
     let j = c .args .j .0 in
     let denied : Denied (queryRefusal plan (self .n) (length table) i j (length trace)) fault trace trace = record {
-      reason = ap (λ o. before o (runRefusal plan (self .n) i j (length trace))) (c .in-Break-check-table .ensures tt .checked);
+      reason = stopped-first (tableRefusal plan (self .n) (length table)) (runRefusal plan (self .n) i j (length trace)) _ (c .in-Break-check-table .ensures tt .checked);
       unchanged = refl;
     } in
     rw (p .1, p .2) (record {
@@ -37,7 +38,7 @@ returns g c =
     let i = c .args .i .0 in
     let j = c .args .j .0 in
     let drawn = c .query .ensures .drawn in
-    let passed = ap (λ o. before o (runRefusal plan (self .n) i j (length trace))) (c .in-Continue-check-table .ensures tt .checked) ∙ c .in-Continue-check-run .ensures tt .checked in
+    let passed = passes-both (tableRefusal plan (self .n) (length table)) (runRefusal plan (self .n) i j (length trace)) (c .in-Continue-check-table .ensures tt .checked) (c .in-Continue-check-run .ensures tt .checked) in
     record {
       queried = (passed, drawn);
       standing = λ items small s.

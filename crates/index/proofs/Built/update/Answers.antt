@@ -1,9 +1,10 @@
-use mathlib.Core.Path.{_≡_, refl, ap, _∙_}
+use mathlib.Core.Path.{refl}
 use lib.ListN.{length}
 use Rattle.std.proofs.shelf.Results.{err-from-errBy}
 use Rattle.std.specs.declared.result.Result.the-variants.{Ok, Err}
-use Rattle.index.specs.Refusals.{before, updateRefusal, itemRefusal}
+use Rattle.index.specs.Refusals.{tableRefusal, itemRefusal, updateRefusal}
 use Rattle.index.specs.Calls.{Denied}
+use Rattle.index.proofs.Refusing.{stopped-first, passes-both}
 use Rattle.index.proofs.Histories.{update-amended}
 use Rattle.index.proofs.Built.update.Needs as need
 
@@ -15,7 +16,7 @@ returns-in-Break-check-table g c =
     let table = c .args .table .now in
     let fault = c .in-Break-check-table .field-0 .0 in
     let denied : Denied (updateRefusal plan (self .n) (length table) (c .args .p .0)) fault table table = record {
-      reason = ap (λ o. before o (itemRefusal (self .n) (c .args .p .0))) (c .in-Break-check-table .ensures tt .checked);
+      reason = stopped-first (tableRefusal plan (self .n) (length table)) (itemRefusal (self .n) (c .args .p .0)) _ (c .in-Break-check-table .ensures tt .checked);
       unchanged = refl;
     } in
     rw (p .1, p .2) (record {
@@ -31,7 +32,7 @@ returns g c =
     let plan = g .S·Scheme .plan (self .scheme) in
     let table = c .args .table .now in
     let renewed = c .update .ensures .renewed in
-    let passed = ap (λ o. before o (itemRefusal (self .n) (c .args .p .0))) (c .in-Continue-check-table .ensures tt .checked) ∙ c .in-Continue-check-event .ensures tt .checked in
+    let passed = passes-both (tableRefusal plan (self .n) (length table)) (itemRefusal (self .n) (c .args .p .0)) (c .in-Continue-check-table .ensures tt .checked) (c .in-Continue-check-event .ensures tt .checked) in
     record {
       updated = (passed, renewed);
       standing = λ items small s.

@@ -16,7 +16,8 @@ returns g c =
     let small = room .small in
     let fits = room .fits in
     record {
-      accepted = (passed, refl, refl);
-      filled = c .fill .ensures .filled;
+      decided = passed;
+      moves = (omega arith, refl);
+      fills = c .fill .ensures .filled;
       lasting = filled-lasting (g .T·Semigroup .op) (g .T·Semigroup·met .associative) plan sound (self .n) (self .some) (self .few) small (c .args .table .now) (c .fill .last .table) (omega arith) (c .fill .ensures .filled);
     }
