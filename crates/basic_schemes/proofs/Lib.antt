@@ -2,3 +2,10 @@ pub mod FlatLayout
 pub mod FlatFills
 pub mod FlatUpdates
 pub mod FlatQueries
+pub mod Changes
+pub mod HalvingLayout
+pub mod HalvingCells
+pub mod HalvingFills
+pub mod HalvingUpdates
+pub mod HalvingQueries
+pub mod HalvingNumbers

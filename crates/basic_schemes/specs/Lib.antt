@@ -1,2 +1,4 @@
 pub mod FlatPlan
 pub mod FlatRows
+pub mod HalvingPlan
+pub mod HalvingRows

@@ -5,20 +5,45 @@ mod sample;
 
 use basic_schemes::flat::Flat;
 use basic_schemes::flat::FlatScheme;
+use basic_schemes::halving::Halving;
+use basic_schemes::halving::HalvingScheme;
 use check::Tally;
 use sample::Random;
+use scheme::Scheme;
 use std::error::AnyError;
 
 /// The most events of a small day.
 const SMALL: u32 = 40;
 
-fn run(rt: &LibcRuntime) -> Result<(), AnyError> {
-    let mut random = Random::new(1);
+/// Every run of every small day, under one scheme.
+fn small_days<S: Scheme + Copy>(
+    rt: &LibcRuntime,
+    random: &mut Random,
+    what: &str,
+    scheme: S,
+) -> Result<(), AnyError> {
     let mut tally = Tally::new();
     for n in 1..=SMALL {
-        check::every_run(rt, &mut random, &mut tally, Flat, n)?;
+        check::every_run(rt, random, &mut tally, scheme, n)?;
     }
-    tally.tell(rt, "flat")
+    tally.tell(rt, what)
+}
+
+/// Random runs of the fullest days.
+fn full_days(rt: &LibcRuntime, random: &mut Random) -> Result<(), AnyError> {
+    let mut tally = Tally::new();
+    check::random_runs(rt, random, &mut tally, Flat, 1_000)?;
+    check::random_runs(rt, random, &mut tally, Halving, 1_000)?;
+    check::random_runs(rt, random, &mut tally, Halving, 65_535)?;
+    check::random_runs(rt, random, &mut tally, Halving, 65_536)?;
+    tally.tell(rt, "full days")
+}
+
+fn run(rt: &LibcRuntime) -> Result<(), AnyError> {
+    let mut random = Random::new(1);
+    small_days(rt, &mut random, "flat", Flat)?;
+    small_days(rt, &mut random, "halving", Halving)?;
+    full_days(rt, &mut random)
 }
 
 fn main(rt: LibcRuntime) -> Result<(), AnyError> {
