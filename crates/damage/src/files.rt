@@ -17,7 +17,7 @@ use std::alloc::Global;
 use std::error::AnyError;
 
 /// Rule 1.
-pub fn lengths(rt: &LibcRuntime) -> Result<(), AnyError> {
+pub(crate) fn lengths(rt: &LibcRuntime) -> Result<(), AnyError> {
     tell(rt, "the sample", &SAMPLE)?;
     for len in 0..21 {
         tell(rt, "cut", &SAMPLE[0..len])?;
@@ -34,7 +34,7 @@ pub fn lengths(rt: &LibcRuntime) -> Result<(), AnyError> {
 }
 
 /// Rule 2.
-pub fn editions(rt: &LibcRuntime) -> Result<(), AnyError> {
+pub(crate) fn editions(rt: &LibcRuntime) -> Result<(), AnyError> {
     with(rt, "edition 0", &[(0, 0)])?;
     with(rt, "edition 2", &[(0, 2)])?;
     with(rt, "edition 257", &[(1, 1)])?;
@@ -42,7 +42,7 @@ pub fn editions(rt: &LibcRuntime) -> Result<(), AnyError> {
 }
 
 /// Rule 3.
-pub fn counts(rt: &LibcRuntime) -> Result<(), AnyError> {
+pub(crate) fn counts(rt: &LibcRuntime) -> Result<(), AnyError> {
     with(rt, "no codes", &[(2, 0)])?;
     with(rt, "64 codes, which do not fit", &[(2, 64)])?;
     with(rt, "65 codes", &[(2, 65)])?;
@@ -55,7 +55,7 @@ pub fn counts(rt: &LibcRuntime) -> Result<(), AnyError> {
 }
 
 /// Rule 4.
-pub fn sections(rt: &LibcRuntime) -> Result<(), AnyError> {
+pub(crate) fn sections(rt: &LibcRuntime) -> Result<(), AnyError> {
     with(rt, "codes at byte 19", &[(8, 19)])?;
     with(rt, "codes over the events by a byte", &[(8, 21)])?;
     with(rt, "codes on the last event", &[(8, 68)])?;
@@ -76,7 +76,7 @@ pub fn sections(rt: &LibcRuntime) -> Result<(), AnyError> {
 }
 
 /// Sections in the other order, with gaps.
-pub fn orders(rt: &LibcRuntime) -> Result<(), AnyError> {
+pub(crate) fn orders(rt: &LibcRuntime) -> Result<(), AnyError> {
     tell(rt, "the turned sample", &TURNED)?;
     turned_with(rt, "turned, events moved up to the codes", &[(12, 24)])?;
     turned_with(rt, "turned, events over the codes by a byte", &[(12, 25)])?;
@@ -126,7 +126,7 @@ pub fn orders(rt: &LibcRuntime) -> Result<(), AnyError> {
 }
 
 /// Rule 5.
-pub fn codes(rt: &LibcRuntime) -> Result<(), AnyError> {
+pub(crate) fn codes(rt: &LibcRuntime) -> Result<(), AnyError> {
     with(rt, "effect 3 in the first code", &[(23, 3)])?;
     with(rt, "effect 3 in the last code", &[(31, 3)])?;
     with(rt, "effect 255", &[(23, 255)])?;
@@ -139,7 +139,7 @@ pub fn codes(rt: &LibcRuntime) -> Result<(), AnyError> {
 }
 
 /// Rule 6: times of day, codes and flags.
-pub fn events(rt: &LibcRuntime) -> Result<(), AnyError> {
+pub(crate) fn events(rt: &LibcRuntime) -> Result<(), AnyError> {
     with(
         rt,
         "last millisecond of the day",
@@ -156,7 +156,7 @@ pub fn events(rt: &LibcRuntime) -> Result<(), AnyError> {
 }
 
 /// Rule 6: prices.
-pub fn prices(rt: &LibcRuntime) -> Result<(), AnyError> {
+pub(crate) fn prices(rt: &LibcRuntime) -> Result<(), AnyError> {
     with(rt, "no flag, price 1", &[(60, 1)])?;
     with(rt, "no flag, price -2^31", &[(63, 128)])?;
     with(rt, "no flag, quantity 1", &[(64, 1)])?;
@@ -166,7 +166,7 @@ pub fn prices(rt: &LibcRuntime) -> Result<(), AnyError> {
 }
 
 /// Rule 7.
-pub fn times(rt: &LibcRuntime) -> Result<(), AnyError> {
+pub(crate) fn times(rt: &LibcRuntime) -> Result<(), AnyError> {
     with(rt, "second event one earlier", &[(52, 9)])?;
     with(rt, "last event one earlier than the one before", &[(68, 9)])?;
     with(rt, "last event at the time of the one before", &[(68, 10)])?;
@@ -209,7 +209,7 @@ fn full_day(heap: Global) -> Result<Vec<u8>, AllocError> {
 }
 
 /// Files of 64 codes and 65,536 events.
-pub fn full(rt: &LibcRuntime) -> Result<(), AnyError> {
+pub(crate) fn full(rt: &LibcRuntime) -> Result<(), AnyError> {
     let mut file = full_day(rt.alloc())?;
     tell(rt, "64 codes and 65,536 events", &file)?;
     let last = 532 + 16 * 65_535;
@@ -256,7 +256,7 @@ fn tell_code(rt: &LibcRuntime, file: &SessionFile, place: usize) -> Result<(), A
 }
 
 /// What the readers hand out, past the end too.
-pub fn readers(rt: &LibcRuntime) -> Result<(), AnyError> {
+pub(crate) fn readers(rt: &LibcRuntime) -> Result<(), AnyError> {
     let file = match open(&TURNED) {
         Ok(file) => file,
         Err(_) => return Err("the turned sample is not accepted".into()),

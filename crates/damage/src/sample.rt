@@ -5,7 +5,7 @@ use session::file::open;
 use std::error::AnyError;
 
 /// Two codes at byte 20 and three events at byte 36, 84 bytes. The second event has no price.
-pub const SAMPLE: [u8; 84] = [
+pub(crate) const SAMPLE: [u8; 84] = [
     1,
     0,
     2,
@@ -93,7 +93,7 @@ pub const SAMPLE: [u8; 84] = [
 ];
 
 /// The same day with gaps, and its events before its codes: three events at byte 22, two codes at byte 72, 90 bytes.
-pub const TURNED: [u8; 90] = [
+pub(crate) const TURNED: [u8; 90] = [
     1,
     0,
     2,
@@ -187,7 +187,7 @@ pub const TURNED: [u8; 90] = [
 ];
 
 /// Prints what opening the bytes gives.
-pub fn tell(rt: &LibcRuntime, what: &str, bytes: &[u8]) -> Result<(), AnyError> {
+pub(crate) fn tell(rt: &LibcRuntime, what: &str, bytes: &[u8]) -> Result<(), AnyError> {
     match open(bytes) {
         Ok(_) => println!(rt, "{what}: accepted")?,
         Err(fault) => println!(rt, "{what}: {fault}")?,
@@ -196,7 +196,7 @@ pub fn tell(rt: &LibcRuntime, what: &str, bytes: &[u8]) -> Result<(), AnyError> 
 }
 
 /// Writes each byte to its place.
-pub fn patch(bytes: &mut [u8], edits: &[(usize, u8)]) {
+pub(crate) fn patch(bytes: &mut [u8], edits: &[(usize, u8)]) {
     for (at, byte) in edits {
         if *at < bytes.len() {
             bytes[*at] = *byte;
@@ -205,14 +205,18 @@ pub fn patch(bytes: &mut [u8], edits: &[(usize, u8)]) {
 }
 
 /// Prints what opening the sample gives once these bytes are changed.
-pub fn with(rt: &LibcRuntime, what: &str, edits: &[(usize, u8)]) -> Result<(), AnyError> {
+pub(crate) fn with(rt: &LibcRuntime, what: &str, edits: &[(usize, u8)]) -> Result<(), AnyError> {
     let mut file = SAMPLE;
     patch(&mut file, edits);
     tell(rt, what, &file)
 }
 
 /// The same of the turned sample.
-pub fn turned_with(rt: &LibcRuntime, what: &str, edits: &[(usize, u8)]) -> Result<(), AnyError> {
+pub(crate) fn turned_with(
+    rt: &LibcRuntime,
+    what: &str,
+    edits: &[(usize, u8)],
+) -> Result<(), AnyError> {
     let mut file = TURNED;
     patch(&mut file, edits);
     tell(rt, what, &file)

@@ -26,14 +26,14 @@ const RANDOM_RUNS: u32 = 100;
 
 /// How many answers were checked, and how many were not what they should be.
 #[derive(Drop)]
-pub struct Tally {
+pub(crate) struct Tally {
     days: u64,
     runs: u64,
     mismatches: u64,
 }
 
 impl Tally {
-    pub fn new() -> Tally {
+    pub(crate) fn new() -> Tally {
         Tally {
             days: 0,
             runs: 0,
@@ -41,7 +41,7 @@ impl Tally {
         }
     }
 
-    pub fn tell(&self, rt: &LibcRuntime, what: &str) -> Result<(), AnyError> {
+    pub(crate) fn tell(&self, rt: &LibcRuntime, what: &str) -> Result<(), AnyError> {
         let Tally {
             days,
             runs,
@@ -225,7 +225,7 @@ fn change<S: Scheme>(random: &mut Random, tally: &mut Tally, day: &mut Day<S>, p
 }
 
 /// Asks for every run of n events, changes every item, and asks for every run again.
-pub fn every_run<S: Scheme + Drop>(
+pub(crate) fn every_run<S: Scheme + Drop>(
     rt: &LibcRuntime,
     random: &mut Random,
     tally: &mut Tally,
@@ -243,7 +243,7 @@ pub fn every_run<S: Scheme + Drop>(
 }
 
 /// Asks for random runs of n events, and changes a random item after each.
-pub fn random_runs<S: Scheme + Drop>(
+pub(crate) fn random_runs<S: Scheme + Drop>(
     rt: &LibcRuntime,
     random: &mut Random,
     tally: &mut Tally,

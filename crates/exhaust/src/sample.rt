@@ -9,30 +9,30 @@ use records::record::Event;
 
 /// A linear congruential generator.
 #[derive(Drop)]
-pub struct Random {
+pub(crate) struct Random {
     state: u64,
 }
 
 impl Random {
-    pub fn new(seed: u64) -> Random {
+    pub(crate) fn new(seed: u64) -> Random {
         Random { state: seed }
     }
 
     /// The next number, of 32 bits.
-    pub fn next_u32(&mut self) -> u32 {
+    pub(crate) fn next_u32(&mut self) -> u32 {
         let next = self.state.wrapping_mul(6_364_136_223_846_793_005);
         self.state = next.wrapping_add(1_442_695_040_888_963_407);
         (self.state >> 32) as u32
     }
 
     /// A number below a limit, or 0.
-    pub fn below(&mut self, limit: u32) -> u32 {
+    pub(crate) fn below(&mut self, limit: u32) -> u32 {
         let number = self.next_u32();
         if limit == 0 { 0 } else { number % limit }
     }
 
     /// The chain map of an event with a random factor and quantity.
-    pub fn chain_map(&mut self) -> ChainMap {
+    pub(crate) fn chain_map(&mut self) -> ChainMap {
         let quantity = self.next_u32();
         let event = Event {
             time: 0,

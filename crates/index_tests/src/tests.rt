@@ -69,6 +69,12 @@ fn check_ends(ends: Ends, first: u32, last: u32) -> Result<(), Fail> {
     check_eq(ends.last, last)
 }
 
+fn check_piece(piece: Piece, cell: u64, first: u32, last: u32) -> Result<(), Fail> {
+    check_eq(piece.cell.0, cell)?;
+    check_eq(piece.first.0, first)?;
+    check_eq(piece.last.0, last)
+}
+
 #[test]
 fn counts_of_events() -> Result<(), Fail> {
     check_refused(Draft::new(Flat, 0), 8, 0)?;
@@ -116,21 +122,25 @@ fn cells_uncounted() -> Result<(), Fail> {
 }
 
 #[test]
-fn runs_and_traces() -> Result<(), Fail> {
+fn runs_and_traces_refused() -> Result<(), Fail> {
     let mut table = TABLE;
-    let mut trace = [NOWHERE; 2];
     let built = build(&mut table)?;
     check_refused(built.query(&table, EventNo(2), EventNo(1), &mut []), 10, 1)?;
     check_refused(built.query(&table, EventNo(0), EventNo(3), &mut []), 10, 3)?;
     check_refused(built.query(&table, EventNo(0), EventNo(2), &mut []), 11, 1)?;
-    check_refused(built.update(&mut table, EventNo(3), NOTHING), 10, 3)?;
+    check_refused(built.update(&mut table, EventNo(3), NOTHING), 10, 3)
+}
+
+#[test]
+fn trace_of_a_run() -> Result<(), Fail> {
+    let mut table = TABLE;
+    let mut trace = [NOWHERE; 2];
+    let built = build(&mut table)?;
     let answer = granted(built.query(&table, EventNo(0), EventNo(2), &mut trace))?;
     check_eq(answer.combinations, 0)?;
     check_ends(answer.value, 0, 2)?;
-    check_eq(trace[0].cell.0, 5)?;
-    check_eq(trace[0].first.0, 0)?;
-    check_eq(trace[0].last.0, 2)?;
-    check_eq(trace[1].cell.0, 99)
+    check_piece(trace[0], 5, 0, 2)?;
+    check_piece(trace[1], 99, 99, 99)
 }
 
 #[test]

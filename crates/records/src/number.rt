@@ -6,7 +6,7 @@ ghost use lib.ListN.{length};
 ghost use Rattle.records.specs.Numbers.{le2, le4};
 
 /// The number that two bytes write from `at` on.
-pub fn u16_at(bytes: &[u8], at: usize) -> u16
+pub(crate) fn u16_at(bytes: &[u8], at: usize) -> u16
     requires within { ⌜ at + 2 ≤ length (now bytes) ⌝ }
     ensures value { λ r. ⌜ r ≡ le2 (now (bytes .entry)) at ⌝ }
 {
@@ -14,7 +14,7 @@ pub fn u16_at(bytes: &[u8], at: usize) -> u16
 }
 
 /// The number that four bytes write from `at` on.
-pub fn u32_at(bytes: &[u8], at: usize) -> u32
+pub(crate) fn u32_at(bytes: &[u8], at: usize) -> u32
     requires within { ⌜ at + 4 ≤ length (now bytes) ⌝ }
     ensures value { λ r. ⌜ r ≡ le4 (now (bytes .entry)) at ⌝ }
 {

@@ -16,7 +16,7 @@ use records::record::HEADER_LEN;
 use records::record::Header;
 
 /// 1: the header is there, and tells the length.
-pub fn check_length(file: &[u8]) -> Result<Header, FileFault>
+pub(crate) fn check_length(file: &[u8]) -> Result<Header, FileFault>
     ensures first { λ r. ⌜ Cases r (λ h. Whole (now (file .entry)) × (h ≡ headerOf (now (file .entry)))) (First (now (file .entry))) ⌝ }
 {
     let len = file.len();
@@ -27,7 +27,7 @@ pub fn check_length(file: &[u8]) -> Result<Header, FileFault>
 }
 
 /// 2: the edition.
-pub fn check_edition(file: &[u8], header: &Header) -> Result<(), FileFault>
+pub(crate) fn check_edition(file: &[u8], header: &Header) -> Result<(), FileFault>
     requires read { ⌜ now header ≡ headerOf (now file) ⌝ }
     requires whole { ⌜ Whole (now file) ⌝ }
     ensures first { λ r. ⌜ Cases r (λ _. Edition-one (now (file .entry))) (First (now (file .entry))) ⌝ }
@@ -40,7 +40,7 @@ pub fn check_edition(file: &[u8], header: &Header) -> Result<(), FileFault>
 }
 
 /// 3: how many codes and events there are.
-pub fn check_counts(file: &[u8], header: &Header) -> Result<(), FileFault>
+pub(crate) fn check_counts(file: &[u8], header: &Header) -> Result<(), FileFault>
     requires read { ⌜ now header ≡ headerOf (now file) ⌝ }
     requires whole { ⌜ Whole (now file) ⌝ }
     requires edition { ⌜ Edition-one (now file) ⌝ }
@@ -54,7 +54,7 @@ pub fn check_counts(file: &[u8], header: &Header) -> Result<(), FileFault>
 }
 
 /// 4: where the sections lie.
-pub fn check_sections(file: &[u8], header: &Header) -> Result<(), FileFault>
+pub(crate) fn check_sections(file: &[u8], header: &Header) -> Result<(), FileFault>
     requires read { ⌜ now header ≡ headerOf (now file) ⌝ }
     requires whole { ⌜ Whole (now file) ⌝ }
     requires edition { ⌜ Edition-one (now file) ⌝ }
@@ -76,7 +76,7 @@ pub fn check_sections(file: &[u8], header: &Header) -> Result<(), FileFault>
 }
 
 /// 5: every code.
-pub fn check_codes(file: &[u8], header: &Header) -> Result<(), FileFault>
+pub(crate) fn check_codes(file: &[u8], header: &Header) -> Result<(), FileFault>
     requires read { ⌜ now header ≡ headerOf (now file) ⌝ }
     requires headed { ⌜ Headed (now file) ⌝ }
     ensures first { λ r. ⌜ Cases r (λ _. Codes-good (now (file .entry))) (First (now (file .entry))) ⌝ }
@@ -92,7 +92,7 @@ pub fn check_codes(file: &[u8], header: &Header) -> Result<(), FileFault>
 }
 
 /// 6: every event.
-pub fn check_events(file: &[u8], header: &Header) -> Result<(), FileFault>
+pub(crate) fn check_events(file: &[u8], header: &Header) -> Result<(), FileFault>
     requires read { ⌜ now header ≡ headerOf (now file) ⌝ }
     requires headed { ⌜ Headed (now file) ⌝ }
     requires codes { ⌜ Codes-good (now file) ⌝ }
@@ -109,7 +109,7 @@ pub fn check_events(file: &[u8], header: &Header) -> Result<(), FileFault>
 }
 
 /// 7: that no event is earlier than the one before it.
-pub fn check_times(file: &[u8], header: &Header) -> Result<(), FileFault>
+pub(crate) fn check_times(file: &[u8], header: &Header) -> Result<(), FileFault>
     requires read { ⌜ now header ≡ headerOf (now file) ⌝ }
     requires headed { ⌜ Headed (now file) ⌝ }
     requires codes { ⌜ Codes-good (now file) ⌝ }

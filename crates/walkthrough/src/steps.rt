@@ -36,7 +36,7 @@ fn tell_refusal(rt: &LibcRuntime, what: &str, fault: IndexFault) -> Result<(), A
 }
 
 /// A draft of no events, which is refused.
-pub fn draft_of_none(rt: &LibcRuntime) -> Result<(), AnyError> {
+pub(crate) fn draft_of_none(rt: &LibcRuntime) -> Result<(), AnyError> {
     match Draft::new(Flat, 0) {
         Ok(_) => Err("drafted with no events".into()),
         Err(fault) => tell_refusal(rt, "a draft of no events", fault),
@@ -44,7 +44,7 @@ pub fn draft_of_none(rt: &LibcRuntime) -> Result<(), AnyError> {
 }
 
 /// A build over a table that lacks its last cell, which hands the draft back.
-pub fn build_short<S: Scheme + Drop>(
+pub(crate) fn build_short<S: Scheme + Drop>(
     rt: &LibcRuntime,
     draft: Draft<S>,
     table: &mut [ChainMap],
@@ -98,7 +98,7 @@ fn ask<S: Scheme>(
 }
 
 /// Some queries, the last two of which are refused: a run past the last event, and a trace with no room.
-pub fn queries<S: Scheme>(
+pub(crate) fn queries<S: Scheme>(
     rt: &LibcRuntime,
     built: &Built<S>,
     table: &[ChainMap],
@@ -112,7 +112,7 @@ pub fn queries<S: Scheme>(
 }
 
 /// Puts another element in the place of an event's.
-pub fn correct<S: Scheme>(
+pub(crate) fn correct<S: Scheme>(
     rt: &LibcRuntime,
     built: &Built<S>,
     table: &mut [ChainMap],
