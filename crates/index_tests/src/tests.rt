@@ -4,6 +4,8 @@ use crate::vast::Vast;
 use crate::vast::VastScheme;
 use basic_schemes::flat::Flat;
 use basic_schemes::flat::FlatScheme;
+use basic_schemes::halving::Halving;
+use basic_schemes::halving::HalvingScheme;
 use index::Built;
 use index::Draft;
 use index::IndexFault;
@@ -154,4 +156,20 @@ fn tables_not_as_built() -> Result<(), Fail> {
     granted(built.update(&mut table, EventNo(1), Ends { first: 5, last: 6 }))?;
     check_ends(table[1], 5, 6)?;
     check_ends(table[0], 0, 0)
+}
+
+#[test]
+fn two_pieces_not_as_built() -> Result<(), Fail> {
+    let mut table = TABLE;
+    let mut trace = [NOWHERE; 2];
+    let draft = granted(Draft::new(Halving, 3))?;
+    let Ok(built) = draft.build(&mut table) else {
+        return Err(Fail::new("not built"));
+    };
+    table[3] = Ends { first: 7, last: 7 };
+    table[5] = Ends { first: 8, last: 8 };
+    let answer = granted(built.query(&table, EventNo(0), EventNo(2), &mut trace))?;
+    check_ends(answer.value, 7, 8)?;
+    check_piece(trace[0], 3, 0, 1)?;
+    check_piece(trace[1], 5, 2, 2)
 }
