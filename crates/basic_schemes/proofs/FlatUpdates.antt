@@ -15,21 +15,9 @@ use Rattle.scheme.specs.Table.{As-built}
 use Rattle.scheme.specs.Calls.{Renewed}
 use Rattle.basic_schemes.specs.FlatPlan.{rowStart, locate, flatPlan}
 use Rattle.basic_schemes.specs.FlatRows.{Row-holds, Redone}
+use Rattle.basic_schemes.proofs.Changes.{take-changed, inside-or-not}
 use Rattle.basic_schemes.proofs.FlatLayout.{row-none, row-past, items-before, interval-at, place, place-span, cell-below}
 use Rattle.basic_schemes.proofs.FlatFills.{item-holds}
-
--- a later prefix of a changed list
-pub take-set : {A : Type 0} (n : ℕ) (t : List A) (p : ℕ) (x : A) → take n (set t p x) ≡ set (take n t) p x
-take-set zero t p x = refl
-take-set (suc n) [] p x = refl
-take-set (suc n) (y ∷ t) zero x = refl
-take-set (suc n) (y ∷ t) (suc p) x = ap (λ z. y ∷ z) (take-set n t p x)
-
-between : (a b q : ℕ) → ((a ≤ q) × (q < b)) ⊎ ((a ≤ q) × (q < b) → ⊥)
-between a b q = ⊎-elim
-    (λ (l : q < a). inr (λ w. omega arith))
-    (λ (l : a ≤ q). ⊎-elim (λ (m : q < b). inl (l, m)) (λ (m : b ≤ q). inr (λ w. omega arith)) (cases-lt q b))
-    (cases-lt q a)
 
 -- once item p has changed: if the cells without p hold their products, so do all cells of the rows below g; the cells without p are as they were
 pub record Renewing {A : Type 0} (op : A → A → A) (n p g : ℕ) (before after : List A) : Type 0 where
@@ -53,7 +41,7 @@ module _ {A : Type 0} (op : A → A → A) (n p : ℕ) (pn : p < n) where
             (λ (w : (a ≤ i) × (i < b)). rw (← same) (f .holds (λ z x y. rw same (r .holds held (g - 1) z (omega arith) (omega arith))) i (w .0) (w .1)))
             (λ (w : (a ≤ i) × (i < b) → ⊥). f .kept (rowStart n g + i) (λ z s x y. let s′ : i ≡ z = omega arith in w (omega arith, omega arith))
             ∙ fresh i (omega arith) ∙ held g i (omega arith) (λ x y. w (omega arith, omega arith)))
-            (between a b i)))
+            (inside-or-not a b i)))
             (λ (e : k ≡ g → ⊥). f .kept (rowStart n k + i) (λ z s x y. let q = row-past n k g i (omega arith) (omega arith) v in omega arith) ∙ r .holds held k i (omega arith) v)
             (cases-eq k g);
         kept = λ c out. f .kept c (λ i e x y. out g i up (omega arith) (omega arith) e (omega arith) (omega arith)) ∙ r .kept c (λ k i x y z e v w. out k i x (omega arith) z e v w);
@@ -68,7 +56,7 @@ module _ {A : Type 0} (op : A → A → A) (n p : ℕ) (pn : p < n) where
       (λ (z : k ≡ 0 → ⊥). omega (arith, items-before n k (omega arith) (omega arith)))
       (cases-eq k 0) in
       let side : (p < i) ⊎ (i + k + 1 ≤ p) = ⊎-elim (λ (l : p < i). inl l) (λ (l : i ≤ p). ⊎-elim (λ (m : p < i + k + 1). absurd (out l (omega arith))) (λ (m : i + k + 1 ≤ p). inr m) (cases-lt p (i + k + 1))) (cases-lt p i) in
-      rw (take-set n t p x) (nth-set-other t p (rowStart n k + i) x away ∙ was ∙ sym (over-set-out op (take n t) p x i (i + k + 1) side))
+      rw (take-changed n t p x) (nth-set-other t p (rowStart n k + i) x away ∙ was ∙ sym (over-set-out op (take n t) p x i (i + k + 1) side))
 
   -- all rows
   pub flat-renewed : (x : A) (t t′ : List A) → n ≤ length t → Renewing op n p n (set t p x) t′ → Renewed op flatPlan n p x t t′
@@ -77,7 +65,7 @@ module _ {A : Type 0} (op : A → A → A) (n p : ℕ) (pn : p < n) where
     containing = λ c m inside s.
         let q = place n c m in
         let fits = q .fits in
-        rw (place-span n c q, ← take-set n t p x) (ap (nth t′) (q .is) ∙ r .holds (others-hold x t s) (q .row) (q .first) (omega arith) fits);
+        rw (place-span n c q, ← take-changed n t p x) (ap (nth t′) (q .is) ∙ r .holds (others-hold x t s) (q .row) (q .first) (omega arith) fits);
     missing = λ c m outside. kept-apart c (λ k i f e y z. ⊎-elim (λ (l : p < locate n 0 n c .from). let s = ap (locate n 0 n) e ∙ interval-at n k i f in omega (arith, rw s at l)) (λ (l : locate n 0 n c .to ≤ p). let s = ap (locate n 0 n) e ∙ interval-at n k i f in omega (arith, rw s at l)) outside);
     past = λ c m. kept-apart c (λ k i f e y z. omega (arith, cell-below n k i f));
   }

@@ -1,11 +1,10 @@
+pub mod Changes
 pub mod FlatLayout
 pub mod FlatFills
 pub mod FlatUpdates
 pub mod FlatQueries
-pub mod Changes
 pub mod HalvingLayout
 pub mod HalvingCells
 pub mod HalvingFills
 pub mod HalvingUpdates
 pub mod HalvingQueries
-pub mod HalvingNumbers
