@@ -3,6 +3,8 @@
 //! A product takes the elements in their order, left to right, and nothing but associativity is known of the operation:
 //! it need not be commutative and need have no neutral element, so an empty slice has no product.
 
+#![tactic(auto)]
+
 ghost use Rattle.std.specs.Prelude.{◌≡◌};
 ghost use Rattle.semigroup.specs.Product.{product};
 

@@ -18,7 +18,7 @@ loop-item-preserved g c =
     let op = g.T.Semigroup.op in
     let x = c.item-item.result in
     one_more op c.args.items.now c.loop-item.item-index x c.loop-item.so_far _ c.loop-item-test.true c.item-item.is c.loop-item.invariant
-    (elim c.match-so-far.branch [ in-None w ↦ w.so-far-is ∙ ap (λ o. joined op o (Some x)) (sym w.in-None.is) | in-Some w ↦ w.so-far-is ∙ ap Some w.combine.ensures.combined ∙ ap (λ o. joined op o (Some x)) (sym w.in-Some.is) ])
+    (elim c.match-so_far.branch [ in-None w ↦ w.so_far-is ∙ ap (λ o. joined op o (Some x)) (sym w.in-None.is) | in-Some w ↦ w.so_far-is ∙ ap Some w.combine.ensures.combined ∙ ap (λ o. joined op o (Some x)) (sym w.in-Some.is) ])
 
 pub returns : goal.returns
 returns g c =
