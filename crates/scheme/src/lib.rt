@@ -4,6 +4,8 @@
 //! over a run is answered from a few cells whose intervals follow one another, its pieces. What a scheme means is its
 //! plan; how it fills, reads and updates a table is said in terms of the plan, for every type of elements.
 
+#![tactic(auto)]
+
 ghost use Rattle.std.specs.Prelude.{◌≡◌, ◌+◌, ◌<◌, ◌≤◌, length, take};
 ghost use Rattle.scheme.specs.Plan.{Plan, Sound};
 ghost use Rattle.scheme.specs.Table.{Filled};
