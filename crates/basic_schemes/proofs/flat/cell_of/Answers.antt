@@ -3,8 +3,8 @@ use Rattle.basic_schemes.specs.FlatPlan.{row_start}
 use Rattle.basic_schemes.specs.FlatLayout.{row_none, tri_le, cell_below}
 use Rattle.basic_schemes.proofs.flat.cell_of.Goals as goal
 
-pub overflow-sub-result-2 : goal.overflow-sub-result-2
-overflow-sub-result-2 c = tri_le c.args.gap c.args.n (omega arith)
+pub overflow_sub-result-2 : goal.overflow_sub-result-2
+overflow_sub-result-2 c = tri_le c.args.gap c.args.n (omega arith)
 
 pub returns-then-gap-eq0 : goal.returns-then-gap-eq0
 returns-then-gap-eq0 c =

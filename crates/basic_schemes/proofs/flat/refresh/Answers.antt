@@ -8,8 +8,8 @@ use Rattle.basic_schemes.proofs.flat.refresh.Goals as goal
 pub bounds-table-first : goal.bounds-table-first
 bounds-table-first g c = omega (arith, cells_enough c.args.n)
 
-pub offset-bounds-table-first : goal.offset-bounds-table-first
-offset-bounds-table-first g c =
+pub offset_bounds-table-first : goal.offset_bounds-table-first
+offset_bounds-table-first g c =
     let below : c.loop-first.first + c.args.gap < length c.loop-first.table = omega (arith, cells_enough c.args.n) in
     search rules
 
@@ -21,11 +21,11 @@ loop-first-preserved g c =
     let t = c.loop-first.table in
     let n = c.args.n in
     let room = cells_enough n in
-    redone_more g.T.Semigroup.op n g.met.T.Semigroup.associative c.args.gap c.args.start c.loop-first.first _ c.args.table.now t c.index-table-first.result c.index-table-cell-of.result _
+    redone_more g.T.Semigroup.op n g.met.T.Semigroup.associative c.args.gap c.args.start c.loop-first.first _ c.args.table.now t c.index-table-first.result c.index-table-cell_of.result _
     (omega arith) (omega arith) (omega arith) (omega arith)
-    (ap (slice_get t) (sym c.cell-of.ensures.place) ∙ slice_get_read t _ c.cell-of.result _ refl (omega arith) c.index-table-cell-of.is)
+    (ap (slice_get t) (sym c.cell_of.ensures.place) ∙ slice_get_read t _ c.cell_of.result _ refl (omega arith) c.index-table-cell_of.is)
     (slice_get_read t _ (c.loop-first.first + c.args.gap) _ refl (omega arith) c.index-table-first.is) c.loop-first.invariant
-    c.cell-of-in-loop-first.ensures.place c.combine.ensures.combined
+    c.cell_of-in-loop-first.ensures.place c.combine.ensures.combined
 
 pub returns : goal.returns
 returns g c =

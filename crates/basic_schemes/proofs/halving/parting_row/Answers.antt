@@ -5,8 +5,8 @@ use Rattle.basic_schemes.specs.HalvingPlan.{row_of_parting}
 use Rattle.basic_schemes.specs.HalvingLayout.{leading_few, parted}
 use Rattle.basic_schemes.proofs.halving.parting_row.Goals as goal
 
-pub overflow-sub-result : goal.overflow-sub-result
-overflow-sub-result c = leading_few c.args.i c.args.j (omega arith) (omega arith)
+pub overflow_sub-result : goal.overflow_sub-result
+overflow_sub-result c = leading_few c.args.i c.args.j (omega arith) (omega arith)
 
 pub returns : goal.returns
 returns c =

@@ -9,9 +9,9 @@ loop-p-init g c = (c.requires.range.0, redone_none g.T.Semigroup.op Left c.args.
 pub loop-p-preserved-then-p-row-eq0 : goal.loop-p-preserved-then-p-row-eq0
 loop-p-preserved-then-p-row-eq0 g c = (
   omega arith,
-  simp c.cell-of.ensures
+  simp c.cell_of.ensures
       (left_step g.T.Semigroup.op c.args.n c.args.row c.args.table.now c.loop-p.table c.loop-p.p c.args.end c.requires.row.past
-      c.left-cell-made.result (omega arith) (omega arith) (omega arith) (omega arith) c.if-p-row-eq0.true c.left-cell-made.ensures c.loop-p.invariant.1),
+      c.left_cell-made.result (omega arith) (omega arith) (omega arith) (omega arith) c.if-p-row-eq0.true c.left_cell-made.ensures c.loop-p.invariant.1),
 )
 
 pub loop-p-preserved : goal.loop-p-preserved

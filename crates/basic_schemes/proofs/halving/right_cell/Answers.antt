@@ -13,5 +13,5 @@ pub returns : goal.returns
 returns g c prior =
     let t = c.args.table.now in
     simp c.combine.ensures.combined
-    (right_more g.T.Semigroup.op c.args.n c.args.row t g.met.T.Semigroup.associative c.args.p c.cell-of.result _ _ (omega arith) c.requires.event.1 c.if-prior-row.false
-    (slice_get_read t _ c.args.p _ refl (omega arith) c.index-table-p.is) (omega arith) (slice_get_read t _ c.cell-of.result _ refl (omega arith) c.index-table-cell-of.is) prior)
+    (right_more g.T.Semigroup.op c.args.n c.args.row t g.met.T.Semigroup.associative c.args.p c.cell_of.result _ _ (omega arith) c.requires.event.1 c.if-prior-row.false
+    (slice_get_read t _ c.args.p _ refl (omega arith) c.index-table-p.is) (omega arith) (slice_get_read t _ c.cell_of.result _ refl (omega arith) c.index-table-cell_of.is) prior)

@@ -6,8 +6,8 @@ use Rattle.basic_schemes.proofs.flat.FlatScheme.update.Goals as goal
 pub bounds-table-p : goal.bounds-table-p
 bounds-table-p g c = omega (arith, cells_enough c.args.n)
 
-pub offset-bounds-table-p : goal.offset-bounds-table-p
-offset-bounds-table-p g c =
+pub offset_bounds-table-p : goal.offset_bounds-table-p
+offset_bounds-table-p g c =
     let below : c.args.p.0 < length c.args.table.now = omega (arith, cells_enough c.args.n) in
     search rules
 

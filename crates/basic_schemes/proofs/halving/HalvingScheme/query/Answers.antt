@@ -4,8 +4,8 @@ use Rattle.basic_schemes.specs.HalvingLayout.{cells_enough}
 use Rattle.basic_schemes.proofs.HalvingQueries.{room_one, room_two, drawn_item, drawn_ends}
 use Rattle.basic_schemes.proofs.halving.HalvingScheme.query.Goals as goal
 
-pub offset-bounds-table-i : goal.offset-bounds-table-i
-offset-bounds-table-i g c =
+pub offset_bounds-table-i : goal.offset_bounds-table-i
+offset_bounds-table-i g c =
     let below : c.args.i.0 < length c.args.table.now = omega (arith, cells_enough c.args.n) in
     search rules
 
@@ -27,9 +27,9 @@ returns g c =
     let t = c.args.table.now in
     let trace = c.args.trace.now in
     let two = room_two c.args.n c.args.i.0 c.args.j.0 (length trace) c.if-i-j.false c.requires.trace in
-    let left = ap (λ p. p.cell.0) c.end-pieces.ensures.left in
-    let right = ap (λ p. p.cell.0) c.end-pieces.ensures.right in
+    let left = ap (λ p. p.cell.0) c.end_pieces.ensures.left in
+    let right = ap (λ p. p.cell.0) c.end_pieces.ensures.right in
     record {
       drawn = simp c.combine-value.ensures.combined (drawn_ends g.T.Semigroup.op c.args.n c.args.i.0 c.args.j.0 t trace _ _ _ _ _ c.index-table-first.result c.index-table-second.result
-          c.if-i-j.false two (slice_get_read t _ _ _ refl (omega arith) c.index-table-first.is) (slice_get_read t _ _ _ refl (omega arith) c.index-table-second.is) left right (omega arith) c.end-pieces.ensures.left c.end-pieces.ensures.right);
+          c.if-i-j.false two (slice_get_read t _ _ _ refl (omega arith) c.index-table-first.is) (slice_get_read t _ _ _ refl (omega arith) c.index-table-second.is) left right (omega arith) c.end_pieces.ensures.left c.end_pieces.ensures.right);
     }
