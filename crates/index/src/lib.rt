@@ -4,6 +4,8 @@
 //! updates. Neither holds the table: each call is given it, checks it, and refuses with a fault that leaves every slice
 //! as it was. Knows no scheme and no type of elements.
 
+#![tactic(auto)]
+
 ghost use Rattle.std.specs.Prelude.{◌<◌, ◌≤◌};
 
 mod building;

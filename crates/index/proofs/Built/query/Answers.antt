@@ -6,18 +6,18 @@ use Rattle.index.proofs.Refusing.{stopped_first, passes_both}
 use Rattle.index.proofs.Histories.{query_answered}
 use Rattle.index.proofs.Built.query.Goals as goal
 
-pub returns-in-err-check-table : goal.returns-in-err-check-table
-returns-in-err-check-table g c =
-    let p = err_from_is_err_and c.from-residual.result c.from-residual.ensures.1 in
+pub returns-in_err-check_table : goal.returns-in_err-check_table
+returns-in_err-check_table g c =
+    let p = err_from_is_err_and c.from_residual.result c.from_residual.ensures.1 in
     let self = c.args.self.now in
     let plan = g.S.Scheme.plan self.scheme in
     let table = c.args.table.now in
     let trace = c.args.trace.now in
-    let fault = c.in-err-check-table.field-0.0 in
+    let fault = c.in_err-check_table.field-0.0 in
     let i = c.args.i.0 in
     let j = c.args.j.0 in
     let denied : Denied (query_refusal plan self.n (length table) i j (length trace)) fault trace trace = record {
-      reason = stopped_first (table_refusal plan self.n (length table)) (run_refusal plan self.n i j (length trace)) _ c.in-err-check-table.ensures.checked;
+      reason = stopped_first (table_refusal plan self.n (length table)) (run_refusal plan self.n i j (length trace)) _ c.in_err-check_table.ensures.checked;
       unchanged = refl;
     } in
     rw (p.1, p.2) (record {
@@ -36,7 +36,7 @@ returns g c =
     let i = c.args.i.0 in
     let j = c.args.j.0 in
     let drawn = c.query.ensures.drawn in
-    let passed = passes_both (table_refusal plan self.n (length table)) (run_refusal plan self.n i j (length trace)) c.in-ok-check-table.ensures.checked c.in-ok-check-run.ensures.checked in
+    let passed = passes_both (table_refusal plan self.n (length table)) (run_refusal plan self.n i j (length trace)) c.in_ok-check_table.ensures.checked c.in_ok-check_run.ensures.checked in
     record {
       queried = (passed, drawn);
       standing = λ items small s.

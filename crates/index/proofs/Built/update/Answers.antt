@@ -6,15 +6,15 @@ use Rattle.index.proofs.Refusing.{stopped_first, passes_both}
 use Rattle.index.proofs.Histories.{update_amended}
 use Rattle.index.proofs.Built.update.Goals as goal
 
-pub returns-in-err-check-table : goal.returns-in-err-check-table
-returns-in-err-check-table g c =
-    let p = err_from_is_err_and c.from-residual.result c.from-residual.ensures.1 in
+pub returns-in_err-check_table : goal.returns-in_err-check_table
+returns-in_err-check_table g c =
+    let p = err_from_is_err_and c.from_residual.result c.from_residual.ensures.1 in
     let self = c.args.self.now in
     let plan = g.S.Scheme.plan self.scheme in
     let table = c.args.table.now in
-    let fault = c.in-err-check-table.field-0.0 in
+    let fault = c.in_err-check_table.field-0.0 in
     let denied : Denied (update_refusal plan self.n (length table) c.args.p.0) fault table table = record {
-      reason = stopped_first (table_refusal plan self.n (length table)) (item_refusal self.n c.args.p.0) _ c.in-err-check-table.ensures.checked;
+      reason = stopped_first (table_refusal plan self.n (length table)) (item_refusal self.n c.args.p.0) _ c.in_err-check_table.ensures.checked;
       unchanged = refl;
     } in
     rw (p.1, p.2) (record {
@@ -30,7 +30,7 @@ returns g c =
     let plan = g.S.Scheme.plan self.scheme in
     let table = c.args.table.now in
     let renewed = c.update.ensures.renewed in
-    let passed = passes_both (table_refusal plan self.n (length table)) (item_refusal self.n c.args.p.0) c.in-ok-check-table.ensures.checked c.in-ok-check-event.ensures.checked in
+    let passed = passes_both (table_refusal plan self.n (length table)) (item_refusal self.n c.args.p.0) c.in_ok-check_table.ensures.checked c.in_ok-check_event.ensures.checked in
     record {
       updated = (passed, renewed);
       standing = λ items small s.
