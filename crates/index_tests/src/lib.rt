@@ -1,5 +1,7 @@
 //! The index on examples: tables that are not as built, and each refusal at its limit.
 
+#![tactic(auto)]
+
 mod ends;
 #[cfg(test)]
 mod tests;
