@@ -1,5 +1,6 @@
 //! What a session file is made of: little-endian numbers, the header, codes and events, and a reader that hands out
 //! records one after the other as parts of the file.
+#![tactic(auto)]
 
 mod number;
 pub mod reader;

@@ -7,5 +7,5 @@ use Rattle.records.proofs.reader.reading.bytes_at.Goals as goal
 pub returns : goal.returns
 unfolding part
 returns g c =
-    let front = MatchOption-at_some _ _ c.unwrap.result c.unwrap.ensures c.split-first-chunk.ensures.cases in
+    let front = MatchOption-at_some _ _ c.unwrap.result c.unwrap.ensures c.split_first_chunk.ensures.cases in
     record { value = front.0 ∙ front_of_rest c.args.file.now _ g.row.LEN c.requires.within }
