@@ -1,5 +1,5 @@
 -- The computed refusal is that of the first fault.
-use Rattle.std.proofs.Common.{◌≡◌, ℕ, zero, suc, ◌-◌, ◌<◌, ◌≤◌, Bool, true, false, cond, eqb, leb, List, length, ℤ, pos, negsuc, Some, None, Ok, Err, Decides, Option, Result, refl, ap, ◌∙◌, inl, inr, arith, MatchOption, MatchResult}
+use Rattle.std.proofs.Common.{◌≡◌, ℕ, zero, suc, ◌<◌, ◌≤◌, Bool, true, false, cond, eqb, leb, List, length, ℤ, pos, negsuc, Some, None, Ok, Err, Decides, Option, Result, refl, ap, ◌∙◌, inl, inr, arith, MatchOption, MatchResult}
 use Rattle.std.specs.Option.{option_or}
 use Rattle.std.proofs.lemmas.Bool.Decides.{Decides-eqb, Decides-ltb, Decides-and, Decides-or, Decides-like}
 use Rattle.std.proofs.lemmas.Bool.{leb-true, le-leb, false≢true}

@@ -5,10 +5,10 @@ use Rattle.session.specs.Rules.{GoodCode}
 use Rattle.session.proofs.Turn.{first_bad, the_code, code_test}
 use Rattle.session.proofs.checks.check_codes.Goals as goal
 
-pub returns-then-not-is-lawful : goal.returns-then-not-is-lawful
-returns-then-not-is-lawful c =
+pub returns-then-not-is_lawful : goal.returns-then-not-is_lawful
+returns-then-not-is_lawful c =
     let inv = c.loop-record.invariant in
     let turn = section_turn 8 c.args.file.now (header_of c.args.file.now).codes_at (header_of c.args.file.now).codes c.loop-record.record-iterator c.next.new.self c.in-Some.record inv.0 c.in-Some.ensures.steps in
     let code_is = the_code c.args.file.now _ _ c.decode.result turn.bytes c.decode.ensures.fields in
-    let bad = not_from_Decides _ (code_test _ _ _ _ code_is c.is-lawful.ensures.lawful) c.if-not-is-lawful.true in
+    let bad = not_from_Decides _ (code_test _ _ _ _ code_is c.is_lawful.ensures.lawful) c.if-not-is_lawful.true in
     record { first = (c.requires.headed, first_bad (GoodCode c.args.file.now) _ _ _ turn.place turn.below inv.1 bad) }

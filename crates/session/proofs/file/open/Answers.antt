@@ -5,15 +5,15 @@ use Rattle.session.proofs.Once.{decides, refuses}
 use Rattle.session.proofs.Decided.{told}
 use Rattle.session.proofs.file.open.Goals as goal
 
-pub returns-in-err-header : goal.returns-in-err-header
-returns-in-err-header c =
-    let p = err_from_is_err_and c.from-residual.result c.from-residual.ensures.1 in
-    let first = c.in-err-header.ensures.first in
+pub returns-in_err-header : goal.returns-in_err-header
+returns-in_err-header c =
+    let p = err_from_is_err_and c.from_residual.result c.from_residual.ensures.1 in
+    let first = c.in_err-header.ensures.first in
     rw (p.1, p.2) (record { accepted = decides {X = ℕ} _ (Err _) first; refused = refuses _ (Err _) first; numbered = told {X = ℕ} _ (Err _) first; file = tt })
 
 pub returns : goal.returns
 returns c =
-    let whole = c.in-ok-header.ensures.first in
+    let whole = c.in_ok-header.ensures.first in
     let lie = whole.0.header.sections in
     record {
       accepted = decides {X = ℕ} _ (Ok 0) whole.0;
