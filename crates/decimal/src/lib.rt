@@ -3,11 +3,14 @@
 //! Each public call writes its text from a place on and answers the place after it. A text that does not fit is not
 //! written at all: the answer is then none, and the bytes are as they were.
 
+#![tactic(auto)]
+
 ghost use Rattle.std.specs.Prelude.{◌≡◌, ◌+◌, ◌<◌, ◌≤◌, length, decimal, nat_le};
 ghost use Rattle.std.specs.Fmt.{signed_decimal};
 ghost use Rattle.decimal.specs.Put.{put, placed, placed_end, pair};
 
 /// Writes a number without leading zeros.
+#[tactic(auto, unfolding(crate::specs::Put::placed, crate::specs::Put::placed_end))]
 pub fn put_number(out: &mut [u8], at: usize, n: u32) -> Option<usize>
     ensures end { result ≡ placed_end out.old at (decimal n) }
     ensures written { out.new ≡ placed out.old at (decimal n) }
@@ -20,6 +23,7 @@ pub fn put_number(out: &mut [u8], at: usize, n: u32) -> Option<usize>
 }
 
 /// Writes a number, with a sign if it is below 0.
+#[tactic(auto, unfolding(crate::specs::Put::placed, crate::specs::Put::placed_end))]
 pub fn put_signed(out: &mut [u8], at: usize, z: i32) -> Option<usize>
     ensures end { result ≡ placed_end out.old at (signed_decimal z) }
     ensures written { out.new ≡ placed out.old at (signed_decimal z) }
@@ -32,6 +36,7 @@ pub fn put_signed(out: &mut [u8], at: usize, z: i32) -> Option<usize>
 }
 
 /// Writes a text as it is.
+#[tactic(auto, unfolding(crate::specs::Put::placed, crate::specs::Put::placed_end))]
 pub fn put_text(out: &mut [u8], at: usize, text: &[u8]) -> Option<usize>
     ensures end { result ≡ placed_end out.old at text.now }
     ensures written { out.new ≡ placed out.old at text.now }
@@ -44,6 +49,7 @@ pub fn put_text(out: &mut [u8], at: usize, text: &[u8]) -> Option<usize>
 }
 
 /// Writes two numbers with a text between them.
+#[tactic(auto, using(crate::proofs::Puts::length_three, crate::proofs::Puts::put_three), unfolding(crate::specs::Put::placed, crate::specs::Put::placed_end))]
 pub fn put_pair(out: &mut [u8], at: usize, left: i32, between: &[u8], right: u32) -> Option<usize>
     ensures end { result ≡ placed_end out.old at (pair left between.now right) }
     ensures written { out.new ≡ placed out.old at (pair left between.now right) }

@@ -6,14 +6,14 @@ use Rattle.decimal.proofs.+write_number.Goals as goal
 pub bounds-out-at : goal.bounds-out-at
 bounds-out-at t c = let d = ap length (decimal_digit c.args.n (omega arith)) in omega arith
 
-pub write-number-last-requires : goal.write-number-last-requires
-write-number-last-requires t c = let d = length_step c.args.n (omega arith) (omega arith) in (omega arith, omega arith)
+pub write_number-last-requires : goal.write_number-last-requires
+write_number-last-requires t c = let d = length_step c.args.n (omega arith) (omega arith) in (omega arith, omega arith)
 
 pub bounds-out-last : goal.bounds-out-last
 bounds-out-last t c = let d = length_step c.args.n (omega arith) (omega arith) in omega arith
 
-pub overflow-add-result-else-n-lt10 : goal.overflow-add-result-else-n-lt10
-overflow-add-result-else-n-lt10 t c = let d = length_step c.args.n (omega arith) (omega arith) in search rules
+pub overflow_add-result-else-n-lt10 : goal.overflow_add-result-else-n-lt10
+overflow_add-result-else-n-lt10 t c = let d = length_step c.args.n (omega arith) (omega arith) in search rules
 
 pub returns-then-n-lt10 : goal.returns-then-n-lt10
 returns-then-n-lt10 t c =

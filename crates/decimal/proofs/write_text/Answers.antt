@@ -7,4 +7,4 @@ returns c =
     let at = c.args.at in
     let n = length c.args.text.now in
     let e : at + ((at + n) - at) ≡ at + n = omega arith in
-    record { end = refl; written = simp (drop-drop, e, c.copy-from-slice.ensures.after) }
+    record { end = refl; written = simp (drop-drop, e, c.copy_from_slice.ensures.after) }
