@@ -4,6 +4,8 @@
 //! words of the events. Elements are made only from events and by combining, and any numbers in one stand for an element
 //! by the kind's own rule.
 
+#![tactic(auto)]
+
 pub mod chain_map;
 pub mod extreme;
 pub mod halt_summary;

@@ -1,13 +1,7 @@
-use Rattle.std.proofs.Common.{[], ◌∷◌, map, refl, ap, ◌∙◌, arith}
+use Rattle.std.proofs.Common.{map, ap, ◌∙◌, arith}
 use Rattle.std.proofs.lemmas.List.{take_all}
-use Rattle.std.proofs.lemmas.Slice.{pushed}
-use Rattle.kinds.specs.Runs.{one_more, over_means}
+use Rattle.kinds.specs.Runs.{over_means}
 use Rattle.kinds.proofs.kind.elements_of.Goals as goal
-
-pub loop-entry-preserved : goal.loop-entry-preserved
-loop-entry-preserved g c =
-    pushed (c.of_entry.result ∷ []) c.loop-entry.invariant c.in-ok-push.was c.push.ensures.items
-    ∙ one_more g.K.Kind.element c.args.entries.now c.loop-entry.entry-index _ c.of_entry.result _ c.loop-entry-test.true c.of_entry.ensures.value refl
 
 pub returns : goal.returns
 returns g c =
