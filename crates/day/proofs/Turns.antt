@@ -13,12 +13,12 @@ its_start true start count at h = refl
 its_start false start count at h = absurd (omega arith)
 
 pub one_more : (b : List ℕ) (h : Header) (at next place : ℕ) (bytes : List ℕ) (event : Event) (entry : Entry) (es : List Entry)
-    → at < cond (fits 16 b h.events_at h.events) h.events 0
-    → place ≡ at → next ≡ at + 1
+    → entry ≡ entry_of b h place event → place ≡ at
+    → at < cond (fits 16 b h.events_at h.events) h.events 0 → next ≡ at + 1
     → bytes ≡ part 16 b (cond (fits 16 b h.events_at h.events) h.events_at 0) at
-    → event ≡ event_of bytes → entry ≡ entry_of b h place event → es ≡ first_entries b h at
+    → event ≡ event_of bytes → es ≡ first_entries b h at
     → es ++ (entry ∷ []) ≡ first_entries b h next
-one_more b h at next place bytes event entry es below p n by ev en was =
+one_more b h at next place bytes event entry es en p below n by ev was =
     let start = its_start (fits 16 b h.events_at h.events) h.events_at h.events at below in
     let here : bytes ≡ part 16 b h.events_at at = rw start at by in
     rw (n, add-one at, was, en, ev, here, p) refl

@@ -1,5 +1,7 @@
 //! A day: the events of a session file, each with its number and the record of its code.
 
+#![tactic(auto)]
+
 ghost use Rattle.std.specs.Prelude.{◌≡◌, IfOk};
 ghost use Rattle.day.specs.Day.{entry_of, day_of};
 

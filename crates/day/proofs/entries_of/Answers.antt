@@ -1,4 +1,4 @@
-use Rattle.std.proofs.Common.{[], ◌∷◌, refl, ◌∙◌}
+use Rattle.std.proofs.Common.{[], ◌∷◌, refl, ◌∙◌, arith}
 use Rattle.std.proofs.lemmas.Slice.{pushed}
 use Rattle.records.proofs.Sections.{section_turn}
 use Rattle.day.proofs.Turns.{one_more}
@@ -7,8 +7,7 @@ use Rattle.day.proofs.entries_of.Goals as goal
 pub loop-record-preserved : goal.loop-record-preserved
 loop-record-preserved c =
     let inv = c.loop-record.invariant in
-    let turn = section_turn _ _ _ _ c.loop-record.record-iterator c.next.new.self c.in-Some.record inv.0 c.in-Some.ensures.steps in (
-      turn.still,
-      pushed (c.entry-of.result ∷ []) inv.1 c.in-ok-push.was c.push.ensures.items
-          ∙ one_more _ c.args.file.now.header c.loop-record.record-iterator.at c.next.new.self.at c.in-Some.record.place c.in-Some.record.bytes.now c.decode-event.result c.entry-of.result _ turn.below turn.place turn.next turn.bytes c.decode-event.ensures.fields c.entry-of.ensures.value refl,
-    )
+    let it = c.loop-record.record-iterator in
+    let turn = section_turn _ _ _ _ it c.next.new.self c.in-Some.record inv.0 c.in-Some.ensures.steps in
+    let more = one_more _ c.args.file.now.header it.at c.next.new.self.at _ c.in-Some.record.bytes.now c.decode-event.result c.entry_of.result _ c.entry_of.ensures.value (omega (arith, turn.place)) turn.below turn.next turn.bytes c.decode-event.ensures.fields refl in
+    (turn.still, pushed (c.entry_of.result ∷ []) inv.1 c.in_ok-push.was c.push.ensures.items ∙ more)
