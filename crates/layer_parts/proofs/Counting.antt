@@ -1,10 +1,10 @@
 -- The number of cells, with 2^40 for that or more.
-use Rattle.std.proofs.Common.{◌≡◌, ℕ, zero, suc, ◌+◌, ◌-◌, ◌*◌, ◌/◌, ◌%◌, ◌^◌, ◌<◌, ◌≤◌, min, sym, refl, ap, ◌∙◌, inl, inr, ⊎_elim, add-mul, one-mul, zero-mul, arith}
-use Rattle.std.proofs.lemmas.Nat.{div-add-mod', mod_below, mul-le, pow-add, pow_pos, shl-shr, div-mul-add}
-use Rattle.std.proofs.lemmas.Bool.{cases_lt, cases_eq}
+use Rattle.std.proofs.Common.{◌≡◌, ℕ, zero, suc, ◌+◌, ◌-◌, ◌*◌, ◌/◌, ◌%◌, ◌^◌, ◌<◌, ◌≤◌, ap, ◌∙◌, ⊎_elim, add-mul, one-mul, zero-mul, arith}
+use Rattle.std.proofs.lemmas.Nat.{div-add-mod', mod_below, mul-le, pow-add, shl-shr, div-mul-add}
+use Rattle.std.proofs.lemmas.Bool.{cases_lt}
 use Rattle.scheme.specs.Plan.{Part}
 use Rattle.scheme.specs.Calls.{capped}
-use Rattle.layer_parts.specs.Parts.{laid, inner_table, inner_tables, step_part, count_of_children, parent_count, Widths}
+use Rattle.layer_parts.specs.Parts.{inner_table, inner_tables, count_of_children, parent_count, Widths}
 use Rattle.layer_parts.proofs.Blocks.{row_before, children_whole}
 use Rattle.layer_parts.proofs.Laying.{laid_same, laid_more}
 

@@ -1,18 +1,18 @@
 -- Answers drawn from an inner table and from the two cells beside it.
-use Rattle.std.proofs.Common.{◌≡◌, ℕ, zero, suc, ◌+◌, ◌-◌, ◌*◌, ◌<◌, ◌≤◌, min, List, [], ◌∷◌, ◌++◌, map, length, take, drop, set, Some, None, Option, sym, refl, ap, ◌∙◌, add-zero, add_assoc, zero-add, one-add, arith, length-append, length-set}
+use Rattle.std.proofs.Common.{◌≡◌, ℕ, zero, suc, ◌+◌, ◌-◌, ◌*◌, ◌<◌, ◌≤◌, List, [], ◌∷◌, ◌++◌, map, length, take, drop, set, Some, None, Option, sym, refl, ap, ◌∙◌, add-zero, add_assoc, zero-add, one-add, arith, length-append, length-set}
 use borrow.Rule.Slice.PartMut.{put_mid}
 use Rattle.std.specs.List.{slice_get}
 use Rattle.std.proofs.lemmas.List.{length-map}
 use Rattle.semigroup.specs.Product.{product, joined}
 use Rattle.semigroup.proofs.Places.{nth_take, nth_drop, nth_set_same, nth_left, nth_right}
 use Rattle.semigroup.proofs.Products.{product_append}
-use Rattle.scheme.specs.Plan.{Interval, Part, Covers, done, goes, Within}
+use Rattle.scheme.specs.Plan.{Part, Covers, done, goes, Within}
 use Rattle.scheme.specs.Table.{Written, pick, picked}
 use Rattle.scheme.specs.Calls.{Drawn, piece_of}
 use Rattle.scheme.specs.declared.Piece.{Piece}
 use Rattle.scheme.specs.declared.Answer.{Answer}
 use Rattle.scheme.proofs.Writes.{written_none, written_more, written_part, length_part}
-use Rattle.layer_parts.specs.Parts.{LiftedAt, child_start, events_of_children, Children}
+use Rattle.layer_parts.specs.Parts.{LiftedAt, child_start, Children}
 use Rattle.layer_parts.specs.Layout.{moved}
 use Rattle.layer_parts.specs.Writes.{piece_in_layer, outer_at}
 use Rattle.layer_parts.proofs.Blocks.{row_before}

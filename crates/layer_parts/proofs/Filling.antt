@@ -1,5 +1,5 @@
 -- Inner tables and steps, filled.
-use Rattle.std.proofs.Common.{◌≡◌, ℕ, ◌+◌, ◌-◌, ◌*◌, ◌/◌, ◌%◌, ◌^◌, ◌<◌, ◌≤◌, min, List, length, take, drop, sym, refl, ap, ◌∙◌, add_assoc, add-mul, one-mul, arith}
+use Rattle.std.proofs.Common.{◌≡◌, ℕ, ◌+◌, ◌-◌, ◌*◌, ◌^◌, ◌<◌, ◌≤◌, List, length, take, drop, sym, ap, ◌∙◌, add_assoc, add-mul, one-mul, arith}
 use borrow.Rule.Slice.PartMut.{put_mid}
 use Rattle.std.specs.List.{slice_get}
 use Rattle.semigroup.specs.Product.{over}
@@ -8,7 +8,7 @@ use Rattle.semigroup.proofs.Products.{over_blocks}
 use Rattle.scheme.specs.Plan.{Part, Plan, Within}
 use Rattle.scheme.specs.Table.{Written, Filled, Holds, due}
 use Rattle.scheme.proofs.Writes.{written_part, written_over, written_as, filled_items, items_filled}
-use Rattle.layer_parts.specs.Parts.{beside, laid, items, start_of_block, end_of_block, prefixes, suffixes, child_start, lifted, inner_table, inner_tables, step_part, count_of_children, parent_count, Children}
+use Rattle.layer_parts.specs.Parts.{beside, items, end_of_block, prefixes, suffixes, child_start, lifted, inner_table, inner_tables, step_part, count_of_children, parent_count, Children}
 use Rattle.layer_parts.specs.Layout.{exponent_at, layout_step, layout_steps}
 use Rattle.layer_parts.proofs.Blocks.{row_before, child_aligned}
 use Rattle.layer_parts.proofs.Laying.{filled_beside, filled_more}

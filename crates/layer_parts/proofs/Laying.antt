@@ -1,10 +1,9 @@
 -- Parts laid end to end: their cells, intervals and covers, and what was filled.
-use Rattle.std.proofs.Common.{◌≡◌, ℕ, zero, suc, ◌+◌, ◌-◌, ◌*◌, ◌<◌, ◌≤◌, min, List, [], ◌∷◌, ◌++◌, map, sym, refl, ap, ◌∙◌, ⊎_elim, add-zero, suc-mul, zero-mul, add-one, arith}
-use Rattle.std.specs.List.{slice_get}
-use Rattle.std.proofs.lemmas.Bool.{lt-ltb, le-ltb, cases_lt, cases_eq}
+use Rattle.std.proofs.Common.{◌≡◌, ℕ, zero, suc, ◌+◌, ◌-◌, ◌*◌, ◌<◌, ◌≤◌, List, [], ◌∷◌, ◌++◌, sym, refl, ap, ◌∙◌, ⊎_elim, add-zero, suc-mul, zero-mul, add-one, arith}
+use Rattle.std.proofs.lemmas.Bool.{lt-ltb, le-ltb, cases_lt}
 use Rattle.scheme.specs.Plan.{Interval, Part, Covers, done, goes, Within}
 use Rattle.scheme.specs.Table.{Filled, Holds}
-use Rattle.layer_parts.specs.Parts.{nothing, beside, laid, HasAt, child_start, events_of_children, lifted}
+use Rattle.layer_parts.specs.Parts.{nothing, beside, laid, HasAt, child_start, lifted}
 use Rattle.layer_parts.specs.Layout.{moved}
 
 -- ---- places

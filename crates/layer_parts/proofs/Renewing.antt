@@ -1,26 +1,25 @@
 -- Parts after an update of one item.
-use Rattle.std.proofs.Common.{◌≡◌, ℕ, zero, suc, ◌+◌, ◌-◌, ◌*◌, ◌/◌, ◌%◌, ◌^◌, ◌<◌, ◌≤◌, min, List, length, take, drop, set, Some, sym, refl, ap, ◌∙◌, inl, inr, ⊎_elim, add_assoc, add-mul, one-mul, zero-add, arith}
+use Rattle.std.proofs.Common.{◌≡◌, ℕ, ◌+◌, ◌-◌, ◌*◌, ◌/◌, ◌<◌, ◌≤◌, List, length, take, drop, set, Some, sym, refl, ◌∙◌, inl, inr, ⊎_elim, add_assoc, add-mul, one-mul, zero-add, arith}
 use borrow.Rule.Slice.PartMut.{put_mid}
 use Rattle.std.specs.List.{slice_get}
-use Rattle.std.proofs.lemmas.List.{length-set, length-take-le, length-drop}
+use Rattle.std.proofs.lemmas.List.{length-take-le, length-drop}
 use Rattle.std.proofs.lemmas.Bool.{lt-ltb, le-ltb, cases_lt, cases_eq}
 use Rattle.std.proofs.lemmas.Nat.{div-add-mod', mod_below, mul-le}
 use Rattle.semigroup.specs.Product.{over}
 use Rattle.semigroup.proofs.Places.{nth_set_same, nth_set_other, nth_take, nth_drop, take_same}
 use Rattle.semigroup.proofs.Products.{over_one, over_set_out}
-use Rattle.scheme.specs.Plan.{Interval, Part, Plan, Sound, Within, Contains, Misses, single}
-use Rattle.scheme.specs.Table.{Holds, Stands, AsBuilt, due}
+use Rattle.scheme.specs.Plan.{Interval, Part, Plan, Sound, Misses, single}
+use Rattle.scheme.specs.Table.{Holds, Stands, due}
 use Rattle.scheme.specs.Calls.{Renewed}
 use Rattle.scheme.proofs.Writes.{nth_part_below, nth_part, nth_part_above}
 use Rattle.scheme.proofs.Standing.{renewed_stands}
 use Rattle.scheme.proofs.Changes.{take_changed}
-use Rattle.layer_parts.specs.Parts.{nothing, beside, laid, items, start_of_block, prefixes, suffixes, child_start, lifted, inner_table, inner_tables, step_part, count_of_children, parent_count, Widths, Children}
-use Rattle.layer_parts.specs.Layout.{child_holding, layout_step, layout_steps, layer_part, layer_plan}
+use Rattle.layer_parts.specs.Parts.{nothing, beside, laid, items, start_of_block, prefixes, suffixes, child_start, lifted, inner_table, inner_tables, step_part, count_of_children, parent_count, Widths}
+use Rattle.layer_parts.specs.Layout.{child_holding}
 use Rattle.layer_parts.specs.Writes.{PartRenewed}
-use Rattle.layer_parts.proofs.Blocks.{row_before, child_aligned, children_of, children_few, children_inside, parent_below, parent_counted, child_starts, child_counted}
-use Rattle.layer_parts.proofs.Laying.{span_left, span_right, span_laid, laid_more, laid_room, Located, locate, holds_left, holds_right, holds_both}
+use Rattle.layer_parts.proofs.Blocks.{row_before, children_of, children_few, children_inside, parent_below, parent_counted, child_starts, child_counted}
+use Rattle.layer_parts.proofs.Laying.{span_left, span_right, span_laid, laid_more, laid_room, locate, holds_left, holds_right, holds_both}
 use Rattle.layer_parts.proofs.Filling.{ChildrenHeld, child_suffix, lifts}
-use Rattle.layer_parts.proofs.Soundness.{within_lifted}
 
 -- ---- parts laid end to end
 

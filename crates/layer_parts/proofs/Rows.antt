@@ -1,13 +1,13 @@
 -- Prefix and suffix cells, computed one from the other.
-use Rattle.std.proofs.Common.{◌≡◌, ℕ, zero, suc, ◌+◌, ◌-◌, ◌*◌, ◌/◌, ◌<◌, ◌≤◌, min, List, length, take, set, Some, sym, refl, ap, ◌∙◌, inl, inr, ⊎_elim, zero-mul, arith}
+use Rattle.std.proofs.Common.{◌≡◌, ℕ, zero, suc, ◌+◌, ◌-◌, ◌*◌, ◌<◌, ◌≤◌, List, length, take, set, Some, sym, refl, ap, ◌∙◌, inl, inr, ⊎_elim, zero-mul, arith}
 use native.Mathlib.Nat.{zero-div}
 use Rattle.std.specs.List.{slice_get}
 use Rattle.std.proofs.lemmas.Bool.{cases_eq, cases_lt}
 use Rattle.semigroup.specs.Product.{over}
 use Rattle.semigroup.proofs.Places.{nth_set_same, nth_set_other, nth_take, take_same}
 use Rattle.semigroup.proofs.Products.{over_one, over_more, over_less, over_set_out}
-use Rattle.scheme.specs.Plan.{Part, Misses}
-use Rattle.scheme.specs.Table.{Filled, Holds, due}
+use Rattle.scheme.specs.Plan.{Part}
+use Rattle.scheme.specs.Table.{Filled, due}
 use Rattle.layer_parts.specs.Parts.{start_of_block, end_of_block, prefixes, suffixes}
 use Rattle.layer_parts.specs.Writes.{PriorHolds, NextHolds, Redone, PartRenewed}
 use Rattle.layer_parts.proofs.Blocks.{block_low, block_high, block_same, block_after}

@@ -1,5 +1,5 @@
 -- What it is to compute cells of a step, and to compute them anew after an update.
-use Rattle.std.specs.Prelude.{◌≡◌, ℕ, ◌+◌, ◌-◌, ◌*◌, ◌<◌, ◌≤◌, min, List, length, take, Some, None, Option, ◌≢◌, slice_set}
+use Rattle.std.specs.Prelude.{◌≡◌, ℕ, ◌+◌, ◌-◌, ◌*◌, ◌<◌, ◌≤◌, List, length, take, Some, None, Option, ◌≢◌, slice_set}
 use Rattle.std.specs.List.{slice_get}
 use Rattle.scheme.specs.Plan.{Part, Misses}
 use Rattle.scheme.specs.Table.{Holds, due}
