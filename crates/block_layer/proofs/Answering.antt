@@ -1,5 +1,5 @@
 -- The pieces of a step, as cells of the layer's table.
-use Rattle.std.proofs.Common.{◌≡◌, ℕ, ◌+◌, ◌-◌, ◌*◌, ◌/◌, ◌^◌, ◌<◌, ◌≤◌, List, [], ◌∷◌, ◌++◌, length, take, drop, set, Some, sym, refl, ap, ◌∙◌, add_assoc, arith}
+use Rattle.std.proofs.Common.{◌≡◌, ℕ, ◌+◌, ◌-◌, ◌*◌, ◌/◌, ◌<◌, ◌≤◌, List, [], ◌∷◌, ◌++◌, length, take, drop, set, Some, sym, refl, ap, ◌∙◌, add_assoc, arith}
 use borrow.Rule.Slice.PartMut.{put_mid}
 use Rattle.std.specs.List.{slice_get}
 use Rattle.scheme.specs.Plan.{Part, Plan}
@@ -7,8 +7,8 @@ use Rattle.scheme.specs.Calls.{Drawn, piece_of}
 use Rattle.scheme.specs.declared.Piece.{Piece}
 use Rattle.scheme.specs.declared.Answer.{Answer}
 use Rattle.scheme.proofs.Drawing.{piece_is, drawn_two}
-use Rattle.layer_parts.specs.Parts.{start_of_block, end_of_block, prefixes, suffixes, inner_table, inner_tables, count_of_children, parent_count, step_part, HasAt, LiftedAt}
-use Rattle.layer_parts.specs.Layout.{between, inner_start, moved, step_pieces, layer_part, Apart}
+use Rattle.layer_parts.specs.Parts.{start_of_block, end_of_block, inner_table, inner_tables, count_of_children, step_part, HasAt, LiftedAt}
+use Rattle.layer_parts.specs.Layout.{between, inner_start, moved, step_pieces, Apart}
 use Rattle.layer_parts.specs.Writes.{suffix_piece, prefix_piece}
 use Rattle.layer_parts.proofs.Blocks.{parent_counted}
 use Rattle.layer_parts.proofs.Drawing.{moved_append, moved_moved, length_moved, ends_drawn}

@@ -1,12 +1,12 @@
 -- The children strictly between those of two events of one parent.
-use Rattle.std.proofs.Common.{◌≡◌, ℕ, ◌+◌, ◌-◌, ◌*◌, ◌/◌, ◌^◌, ◌<◌, ◌≤◌, List, [], length, sym, refl, ap, ◌∙◌, arith}
+use Rattle.std.proofs.Common.{◌≡◌, ℕ, ◌+◌, ◌*◌, ◌/◌, ◌<◌, ◌≤◌, [], length, ◌∙◌, arith}
 use Rattle.std.proofs.lemmas.Bool.{lt-ltb, le-ltb}
-use Rattle.scheme.specs.Plan.{Part, Plan, Sound, Covers}
+use Rattle.scheme.specs.Plan.{Plan, Sound, Covers}
 use Rattle.scheme.specs.Calls.{Run}
 use Rattle.scheme.proofs.Covering.{covers_length}
 use Rattle.layer_parts.specs.Parts.{count_of_children}
 use Rattle.layer_parts.specs.Layout.{child_holding, between, Apart}
-use Rattle.layer_parts.proofs.Soundness.{children_rise, right_counted, kids_few, parent_kids}
+use Rattle.layer_parts.proofs.Soundness.{right_counted, kids_few}
 
 module _ (plan : Plan) (n wide w i j : ℕ) where
   pub between_none : child_holding wide w j ≤ child_holding wide w i + 1 → between plan n wide w i j ≡ []

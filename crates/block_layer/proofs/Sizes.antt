@@ -1,9 +1,8 @@
 -- The cells of a step, as they are counted.
-use Rattle.std.proofs.Common.{◌≡◌, ℕ, zero, suc, ◌+◌, ◌-◌, ◌*◌, ◌/◌, ◌%◌, ◌^◌, ◌<◌, ◌≤◌, min, cond, eqb, sym, refl, ap, ◌∙◌, ⊎_elim, zero-mul, arith}
-use native.Mathlib.Nat.{zero-div}
-use Rattle.std.proofs.lemmas.Nat.{div-add-mod', shr_le, mul-le}
-use Rattle.std.proofs.lemmas.Bool.{cases_eq, eq-eqb, ne_eqb}
-use Rattle.scheme.specs.Plan.{Part, Plan, Sound}
+use Rattle.std.proofs.Common.{◌≡◌, ℕ, ◌+◌, ◌-◌, ◌*◌, ◌/◌, ◌^◌, ◌<◌, ◌≤◌, sym, ap, ◌∙◌, ⊎_elim, zero-mul, arith}
+use Rattle.std.proofs.lemmas.Nat.{div-add-mod'}
+use Rattle.std.proofs.lemmas.Bool.{cases_eq, ne_eqb}
+use Rattle.scheme.specs.Plan.{Plan}
 use Rattle.scheme.specs.Calls.{capped, Events}
 use Rattle.layer_parts.specs.Parts.{inner_table, inner_tables, step_part, count_of_children, parent_count, Widths, Children}
 use Rattle.layer_parts.proofs.Blocks.{widths_of, row_before, children_of, children_few, children_whole, parent_counted}

@@ -1,11 +1,11 @@
 -- An update of an inner table, and of a whole step.
-use Rattle.std.proofs.Common.{◌≡◌, ℕ, ◌+◌, ◌-◌, ◌*◌, ◌/◌, ◌^◌, ◌<◌, ◌≤◌, List, length, take, drop, Some, sym, refl, ap, ◌∙◌, arith}
+use Rattle.std.proofs.Common.{◌≡◌, ℕ, ◌+◌, ◌*◌, ◌/◌, ◌^◌, ◌<◌, ◌≤◌, List, length, take, drop, Some}
 use borrow.Rule.Slice.PartMut.{put_mid}
 use Rattle.std.specs.List.{slice_get}
-use Rattle.scheme.specs.Plan.{Part, Plan, Sound}
+use Rattle.scheme.specs.Plan.{Plan, Sound}
 use Rattle.scheme.specs.Table.{Holds}
 use Rattle.scheme.specs.Calls.{Renewed}
-use Rattle.layer_parts.specs.Parts.{start_of_block, count_of_children, suffixes, inner_table, inner_tables, parent_count, lifted}
+use Rattle.layer_parts.specs.Parts.{start_of_block, count_of_children, suffixes, inner_tables, parent_count}
 use Rattle.layer_parts.specs.Layout.{child_holding}
 use Rattle.layer_parts.specs.Writes.{PartRenewed}
 use Rattle.layer_parts.proofs.Renewing.{inner_renewed, inners_renewed}

@@ -5,6 +5,8 @@
 //! items are its children's products. A query is answered in the one step that has its ends in one parent and in two
 //! children: by a suffix cell, by the inner scheme for the children between, and by a prefix cell.
 
+#![tactic(auto)]
+
 ghost use Rattle.std.specs.Prelude.{◌≡◌, ◌<◌, ◌≤◌};
 ghost use Rattle.layer_parts.specs.Layout.{count_of_steps, layer_plan};
 ghost use Rattle.layer_parts.proofs.Soundness.{layer_sound};

@@ -1,4 +1,3 @@
-use Rattle.std.proofs.Common.{ℕ}
 use Rattle.layer_parts.proofs.Layouts.{AtStep}
 use Rattle.block_layer.proofs.step_count.Given as goal
 

@@ -1,4 +1,4 @@
-use Rattle.std.proofs.Common.{◌≡◌, ◌+◌, ◌<◌, ◌≤◌, length, sym, refl, ap, ◌∙◌, arith}
+use Rattle.std.proofs.Common.{◌+◌, ◌<◌, length, refl, ap, arith}
 use Rattle.std.proofs.lemmas.Option.{slice_get_read}
 use Rattle.scheme.proofs.Drawing.{piece_is, drawn_one}
 use Rattle.layer_parts.specs.Layout.{layer_part}
@@ -17,12 +17,12 @@ returns-then-i-j g c =
           (slice_get_read t (length t) i _ refl (omega arith) c.index-table-i.is) (piece_is (layer_part plan n) i i (i + 1) i i i (item_span plan n i c.args.j.0 (omega arith)) refl refl (omega arith)));
     }
 
-pub query-step-requires : goal.query-step-requires
-query-step-requires g c =
+pub query_step-requires : goal.query_step-requires
+query_step-requires g c =
     let sound = g.met.S.Scheme.sound c.args.self.now.inner in
     let rise : c.args.i.0 < c.args.j.0 = omega (arith, c.if-i-j.false) in
-    let parting = c.parting-step-step.ensures.parting in
-    let placed = c.parting-step-step.ensures.placed in
+    let parting = c.parting_step-step.ensures.parting in
+    let placed = c.parting_step-step.ensures.placed in
     record {
       step = parted_fits _ sound c.args.n c.args.i.0 c.args.j.0 _ _ (omega arith) rise (omega arith) parting _ _ placed (omega arith) (omega arith);
       placed = parted_placed _ sound c.args.n c.args.i.0 c.args.j.0 _ _ (omega arith) rise (omega arith) parting _ placed;
@@ -34,5 +34,5 @@ pub returns : goal.returns
 returns g c =
     let sound = g.met.S.Scheme.sound c.args.self.now.inner in
     let rise : c.args.i.0 < c.args.j.0 = omega (arith, c.if-i-j.false) in
-    let pieces = parted_pieces _ sound c.args.n c.args.i.0 c.args.j.0 _ _ (omega arith) rise (omega arith) c.parting-step-step.ensures.parting _ c.parting-step-step.ensures.placed in
-    record { drawn = rw pieces c.query-step.ensures }
+    let pieces = parted_pieces _ sound c.args.n c.args.i.0 c.args.j.0 _ _ (omega arith) rise (omega arith) c.parting_step-step.ensures.parting _ c.parting_step-step.ensures.placed in
+    record { drawn = rw pieces c.query_step.ensures }

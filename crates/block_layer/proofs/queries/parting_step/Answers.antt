@@ -1,31 +1,31 @@
-use Rattle.std.proofs.Common.{◌≡◌, ◌+◌, ◌<◌, sym, ap, ◌∙◌, arith, rules}
+use Rattle.std.proofs.Common.{◌+◌, sym, ap, ◌∙◌, arith, rules}
 use Rattle.scheme.specs.Exponent.{exponent}
 use Rattle.layer_parts.specs.Layout.{layout_steps}
 use Rattle.scheme.proofs.Exponents.{exponent_few}
 use Rattle.block_layer.proofs.Walks.{seek_some, seek_first, seek_low, seek_live, seek_next, seek_here, seek_done, walk_exponents, walk_on}
 use Rattle.block_layer.proofs.queries.parting_step.Goals as goal
 
-pub child-exponent-f-requires : goal.child-exponent-f-requires
-child-exponent-f-requires g c =
+pub child_exponent-f-requires : goal.child_exponent-f-requires
+child_exponent-f-requires g c =
     let some = seek_some _ (g.met.S.Scheme.sound c.args.inner.now) c.args.n c.args.i.0 c.args.j.0 (omega arith) (omega arith) (omega arith) in
-    simp c.exponent-of-e.ensures.value (some, exponent_few c.args.n (omega arith))
+    simp c.exponent_of-e.ensures.value (some, exponent_few c.args.n (omega arith))
 
 pub loop-f-init : goal.loop-f-init
 loop-f-init g c =
-    (0, seek_first _ (g.met.S.Scheme.sound c.args.inner.now) c.args.n c.args.i.0 c.args.j.0 (omega arith) (omega arith) (omega arith) _ _ c.exponent-of-e.ensures.value c.child-exponent-f.ensures.told, omega arith)
+    (0, seek_first _ (g.met.S.Scheme.sound c.args.inner.now) c.args.n c.args.i.0 c.args.j.0 (omega arith) (omega arith) (omega arith) _ _ c.exponent_of-e.ensures.value c.child_exponent-f.ensures.told, omega arith)
 
-pub overflow-shr-i : goal.overflow-shr-i
-overflow-shr-i g c =
+pub overflow_shr-i : goal.overflow_shr-i
+overflow_shr-i g c =
     let k = c.loop-f.invariant.1 in
     omega (arith, k.walk.low, seek_low _ (g.met.S.Scheme.sound c.args.inner.now) c.args.n c.args.i.0 c.args.j.0 (omega arith) (omega arith) (omega arith) _ _ _ k)
 
-pub overflow-shr-j : goal.overflow-shr-j
-overflow-shr-j g c =
+pub overflow_shr-j : goal.overflow_shr-j
+overflow_shr-j g c =
     let k = c.loop-f.invariant.1 in
     omega (arith, k.walk.low, seek_low _ (g.met.S.Scheme.sound c.args.inner.now) c.args.n c.args.i.0 c.args.j.0 (omega arith) (omega arith) (omega arith) _ _ _ k)
 
-pub child-exponent-f-requires-in-loop-f : goal.child-exponent-f-requires-in-loop-f
-child-exponent-f-requires-in-loop-f g c =
+pub child_exponent-f-requires-in-loop-f : goal.child_exponent-f-requires-in-loop-f
+child_exponent-f-requires-in-loop-f g c =
     let k = c.loop-f.invariant.1 in
     let sound = g.met.S.Scheme.sound c.args.inner.now in (
       seek_live _ sound c.args.n c.args.i.0 c.args.j.0 (omega arith) (omega arith) (omega arith) _ _ _ k c.loop-f-test.true,
@@ -35,15 +35,15 @@ child-exponent-f-requires-in-loop-f g c =
 pub loop-f-smaller : goal.loop-f-smaller
 loop-f-smaller g c = seek_low _ (g.met.S.Scheme.sound c.args.inner.now) c.args.n c.args.i.0 c.args.j.0 (omega arith) (omega arith) (omega arith) _ _ _ c.loop-f.invariant.1
 
-pub step-cells-requires : goal.step-cells-requires
-step-cells-requires g c =
+pub step_cells-requires : goal.step_cells-requires
+step_cells-requires g c =
     let k = c.loop-f.invariant.1 in
     walk_exponents _ (g.met.S.Scheme.sound c.args.inner.now) c.args.n c.loop-f.invariant.0 c.loop-f.e _ (omega arith) (omega arith) k.walk k.live k.told
 
-pub overflow-add-at : goal.overflow-add-at
-overflow-add-at g c =
+pub overflow_add-at : goal.overflow_add-at
+overflow_add-at g c =
     let k = c.loop-f.invariant.1 in
-    let next = walk_on _ (g.met.S.Scheme.sound c.args.inner.now) c.args.n c.loop-f.invariant.0 c.loop-f.e c.loop-f.f (omega arith) (omega arith) k.walk k.live k.told c.loop-f.at c.loop-f.invariant.2 c.requires.small c.step-cells.result c.step-cells.ensures.counted in
+    let next = walk_on _ (g.met.S.Scheme.sound c.args.inner.now) c.args.n c.loop-f.invariant.0 c.loop-f.e c.loop-f.f (omega arith) (omega arith) k.walk k.live k.told c.loop-f.at c.loop-f.invariant.2 c.requires.small c.step_cells.result c.step_cells.ensures.counted in
     search rules
 
 pub loop-f-preserved : goal.loop-f-preserved
@@ -51,8 +51,8 @@ loop-f-preserved g c =
     let k = c.loop-f.invariant.1 in
     let sound = g.met.S.Scheme.sound c.args.inner.now in (
       c.loop-f.invariant.0 + 1,
-      seek_next _ sound c.args.n c.args.i.0 c.args.j.0 (omega arith) (omega arith) (omega arith) _ _ _ k _ c.loop-f-test.true c.child-exponent-f-in-loop-f.ensures.told,
-      (walk_on _ sound c.args.n c.loop-f.invariant.0 c.loop-f.e c.loop-f.f (omega arith) (omega arith) k.walk k.live k.told c.loop-f.at c.loop-f.invariant.2 c.requires.small c.step-cells.result c.step-cells.ensures.counted).0,
+      seek_next _ sound c.args.n c.args.i.0 c.args.j.0 (omega arith) (omega arith) (omega arith) _ _ _ k _ c.loop-f-test.true c.child_exponent-f-in-loop-f.ensures.told,
+      (walk_on _ sound c.args.n c.loop-f.invariant.0 c.loop-f.e c.loop-f.f (omega arith) (omega arith) k.walk k.live k.told c.loop-f.at c.loop-f.invariant.2 c.requires.small c.step_cells.result c.step_cells.ensures.counted).0,
     )
 
 pub returns : goal.returns

@@ -1,4 +1,4 @@
-use Rattle.std.proofs.Common.{◌≡◌, ℕ, ◌+◌, ◌-◌, ◌*◌, ◌/◌, ◌^◌, ◌<◌, ◌≤◌, length, set, sym, refl, ap, ◌∙◌, arith, length-drop, length-set, length-take, rules}
+use Rattle.std.proofs.Common.{◌≡◌, ℕ, ◌+◌, ◌-◌, ◌*◌, ◌/◌, ◌^◌, ◌<◌, ◌≤◌, length, set, refl, ap, arith, length-drop, length-set, length-take, rules}
 use Rattle.std.proofs.lemmas.Option.{slice_get_read}
 use Rattle.scheme.specs.Plan.{Plan, Sound}
 use Rattle.scheme.proofs.Writes.{length_part}
@@ -11,18 +11,18 @@ use Rattle.block_layer.proofs.Betweens.{between_none, between_run, between_is, b
 use Rattle.block_layer.proofs.Answering.{inner_lifted, two_drawn, three_drawn}
 use Rattle.block_layer.proofs.queries.query_step.Goals as goal
 
-pub end-pieces-requires : goal.end-pieces-requires
-end-pieces-requires g c = record {
+pub end_pieces-requires : goal.end_pieces-requires
+end_pieces-requires g c = record {
   exponents = exponents _ _ _ _ _ _ c.requires.step;
   place = omega arith;
   events = (omega (arith, apart_rise _ _ _ _ _ c.requires.apart), omega arith);
 }
 
-pub offset-bounds-table-first-piece : goal.offset-bounds-table-first-piece
-offset-bounds-table-first-piece g c = omega (arith, ap (λ p. p.cell.0) c.end-pieces.ensures.left, apart_rise _ _ _ _ _ c.requires.apart)
+pub offset_bounds-table-first_piece : goal.offset_bounds-table-first_piece
+offset_bounds-table-first_piece g c = omega (arith, ap (λ p. p.cell.0) c.end_pieces.ensures.left, apart_rise _ _ _ _ _ c.requires.apart)
 
-pub bounds-table-first-piece : goal.bounds-table-first-piece
-bounds-table-first-piece g c = omega (arith, ap (λ p. p.cell.0) c.end-pieces.ensures.left, apart_rise _ _ _ _ _ c.requires.apart)
+pub bounds-table-first_piece : goal.bounds-table-first_piece
+bounds-table-first_piece g c = omega (arith, ap (λ p. p.cell.0) c.end_pieces.ensures.left, apart_rise _ _ _ _ _ c.requires.apart)
 
 pub returns-then-first-end : goal.returns-then-first-end
 returns-then-first-end g c =
@@ -32,20 +32,20 @@ returns-then-first-end g c =
     let i = c.args.i.0 in
     let j = c.args.j.0 in
     let t = c.args.table.now in
-    let left = ap (λ p. p.cell.0) c.end-pieces.ensures.left in
-    let right = ap (λ p. p.cell.0) c.end-pieces.ensures.right in
+    let left = ap (λ p. p.cell.0) c.end_pieces.ensures.left in
+    let right = ap (λ p. p.cell.0) c.end_pieces.ensures.right in
     let low = apart_rise _ _ _ _ _ c.requires.apart in
     simp c.combine-value.ensures.combined
     (two_drawn plan n (2 ^ c.args.step.e) w c.args.step.at i j (layer_part plan n) c.requires.placed c.requires.apart g.T.Semigroup.op g.met.T.Semigroup.associative t c.args.trace.now _ _ _ _
-    c.index-table-first-piece.result c.index-table-last-piece.result c.requires.trace c.end-pieces.ensures.left c.end-pieces.ensures.right left right
-    (slice_get_read t (length t) _ _ refl (omega arith) c.index-table-first-piece.is) (slice_get_read t (length t) _ _ refl (omega arith) c.index-table-last-piece.is) _
+    c.index-table-first_piece.result c.index-table-last_piece.result c.requires.trace c.end_pieces.ensures.left c.end_pieces.ensures.right left right
+    (slice_get_read t (length t) _ _ refl (omega arith) c.index-table-first_piece.is) (slice_get_read t (length t) _ _ refl (omega arith) c.index-table-last_piece.is) _
     (between_none plan n (2 ^ c.args.step.e) w i j (omega arith)) refl)
 
-pub parent-of-parent-requires : goal.parent-of-parent-requires
-parent-of-parent-requires g c = record { step = below_cap _ _ _ _ _ _ c.requires.step; event = omega (arith, apart_rise _ _ _ _ _ c.requires.apart) }
+pub parent_of-parent-requires : goal.parent_of-parent-requires
+parent_of-parent-requires g c = record { step = below_cap _ _ _ _ _ _ c.requires.step; event = omega (arith, apart_rise _ _ _ _ _ c.requires.apart) }
 
-pub query-inner-middle-requires : goal.query-inner-middle-requires
-query-inner-middle-requires g c =
+pub query_inner-middle-requires : goal.query_inner-middle-requires
+query_inner-middle-requires g c =
     let plan = g.S.Scheme.plan c.args.inner.now in
     let sound = g.met.S.Scheme.sound c.args.inner.now in
     let n = c.args.n in
@@ -54,11 +54,11 @@ query-inner-middle-requires g c =
     let at = c.args.step.at in
     let i = c.args.i.0 in
     let j = c.args.j.0 in
-    let parent = c.parent-of-parent.ensures in
+    let parent = c.parent_of-parent.ensures in
     let low : i < n = omega (arith, apart_rise _ _ _ _ _ c.requires.apart) in
     let kids = parent_kids plan n e f at i _ _ _ (exponents _ _ _ _ _ _ c.requires.step) low parent in
     let fit = parent_fits plan n e f at _ i _ _ _ _ c.requires.step low parent refl in
-    let is = between_is plan sound n (2 ^ e) (2 ^ f) i j c.requires.apart (omega arith) c.parent-of-parent.result.children (c.child-of.result.0 + 1) (c.child-of-end.result.0 - 1) parent.counted (omega arith) (omega arith) in
+    let is = between_is plan sound n (2 ^ e) (2 ^ f) i j c.requires.apart (omega arith) c.parent_of-parent.result.children (c.child_of.result.0 + 1) (c.child_of-end.result.0 - 1) parent.counted (omega arith) (omega arith) in
     record {
       run = between_run plan sound n (2 ^ e) (2 ^ f) i j c.requires.apart (omega arith) _ _ _ parent.counted (omega arith) (omega arith);
       children = (kids.0, omega arith);
@@ -76,18 +76,18 @@ counts plan n wide w i j m first last cells combinations room sound apart some m
     let l = length_moved cells (plan.pieces m first (last + 1)) in
     (omega arith, omega (arith, ap length is))
 
-pub overflow-add-combinations : goal.overflow-add-combinations
-overflow-add-combinations g c =
+pub overflow_add-combinations : goal.overflow_add-combinations
+overflow_add-combinations g c =
     let k = counts (g.S.Scheme.plan c.args.inner.now) c.args.n (2 ^ c.args.step.e) (2 ^ c.args.step.f) c.args.i.0 c.args.j.0 _ _ _ _ _ (length c.args.trace.now) (g.met.S.Scheme.sound c.args.inner.now) c.requires.apart (omega arith)
-    c.parent-of-parent.ensures.counted (omega arith) (omega arith) c.query-inner-middle.ensures.counted c.requires.trace in
+    c.parent_of-parent.ensures.counted (omega arith) (omega arith) c.query_inner-middle.ensures.counted c.requires.trace in
     search rules
 
 pub bounds-trace-combinations : goal.bounds-trace-combinations
 bounds-trace-combinations g c =
     let k = counts (g.S.Scheme.plan c.args.inner.now) c.args.n (2 ^ c.args.step.e) (2 ^ c.args.step.f) c.args.i.0 c.args.j.0 _ _ _ _ _ (length c.args.trace.now) (g.met.S.Scheme.sound c.args.inner.now) c.requires.apart (omega arith)
-    c.parent-of-parent.ensures.counted (omega arith) (omega arith) c.query-inner-middle.ensures.counted c.requires.trace in
-    let trace = set c.args.trace.now 0 c.end-pieces.result.0 in
-    omega (arith, length_part 1 (length trace - 1) trace c.query-inner-middle.new.trace (simp length-set (omega arith)) c.query-inner-middle.auto.trace, length-set c.args.trace.now 0 c.end-pieces.result.0)
+    c.parent_of-parent.ensures.counted (omega arith) (omega arith) c.query_inner-middle.ensures.counted c.requires.trace in
+    let trace = set c.args.trace.now 0 c.end_pieces.result.0 in
+    omega (arith, length_part 1 (length trace - 1) trace c.query_inner-middle.new.trace (simp length-set (omega arith)) c.query_inner-middle.auto.trace, length-set c.args.trace.now 0 c.end_pieces.result.0)
 
 pub returns : goal.returns
 returns g c =
@@ -99,13 +99,13 @@ returns g c =
     let i = c.args.i.0 in
     let j = c.args.j.0 in
     let t = c.args.table.now in
-    let left = ap (λ p. p.cell.0) c.end-pieces.ensures.left in
-    let right = ap (λ p. p.cell.0) c.end-pieces.ensures.right in
+    let left = ap (λ p. p.cell.0) c.end_pieces.ensures.left in
+    let right = ap (λ p. p.cell.0) c.end_pieces.ensures.right in
     let low = apart_rise _ _ _ _ _ c.requires.apart in
-    let parent = c.parent-of-parent.ensures in
-    let is = between_is plan sound n wide w i j c.requires.apart (omega arith) c.parent-of-parent.result.children (c.child-of.result.0 + 1) (c.child-of-end.result.0 - 1) parent.counted (omega arith) (omega arith) in
+    let parent = c.parent_of-parent.ensures in
+    let is = between_is plan sound n wide w i j c.requires.apart (omega arith) c.parent_of-parent.result.children (c.child_of.result.0 + 1) (c.child_of-end.result.0 - 1) parent.counted (omega arith) (omega arith) in
     simp (c.combine-value-2.ensures.combined, c.combine.ensures.combined)
     (three_drawn plan n wide w c.args.step.at i j (layer_part plan n) c.requires.placed c.requires.apart g.T.Semigroup.op g.met.T.Semigroup.associative t c.args.trace.now _ _ _ _
-    c.index-table-first-piece.result c.index-table-last-piece.result c.requires.trace c.end-pieces.ensures.left c.end-pieces.ensures.right left right
-    (slice_get_read t (length t) _ _ refl (omega arith) c.index-table-first-piece.is) (slice_get_read t (length t) _ _ refl (omega arith) c.index-table-last-piece.is)
-    _ c.parent-of-parent.result.at _ _ _ c.query-inner-middle.new.trace c.query-inner-middle.result is parent.placed refl c.query-inner-middle.ensures c.query-inner-middle.auto.trace refl refl)
+    c.index-table-first_piece.result c.index-table-last_piece.result c.requires.trace c.end_pieces.ensures.left c.end_pieces.ensures.right left right
+    (slice_get_read t (length t) _ _ refl (omega arith) c.index-table-first_piece.is) (slice_get_read t (length t) _ _ refl (omega arith) c.index-table-last_piece.is)
+    _ c.parent_of-parent.result.at _ _ _ c.query_inner-middle.new.trace c.query_inner-middle.result is parent.placed refl c.query_inner-middle.ensures c.query_inner-middle.auto.trace refl refl)

@@ -4,13 +4,13 @@ use Rattle.std.proofs.lemmas.Option.{slice_get_read}
 use Rattle.layer_parts.proofs.Rows.{prefix_first, prefix_next}
 use Rattle.block_layer.proofs.rows.prefix_cell.Goals as goal
 
-pub returns-then-block-start-p : goal.returns-then-block-start-p
-returns-then-block-start-p g c ready =
+pub returns-then-block_start-p : goal.returns-then-block_start-p
+returns-then-block_start-p g c ready =
     prefix_first g.T.Semigroup.op g.met.T.Semigroup.associative c.args.n _ c.args.at (pow_pos c.args.f) c.args.table.now c.args.p _ (omega arith)
-    (slice_get_read c.args.table.now _ _ _ refl (omega arith) c.index-table-p.is) (sym c.block-start.ensures.value ∙ c.if-block-start-p.true)
+    (slice_get_read c.args.table.now _ _ _ refl (omega arith) c.index-table-p.is) (sym c.block_start.ensures.value ∙ c.if-block_start-p.true)
 
 pub returns : goal.returns
 returns g c ready = simp c.combine.ensures.combined
     (prefix_next g.T.Semigroup.op g.met.T.Semigroup.associative c.args.n _ c.args.at (pow_pos c.args.f) c.args.table.now c.args.p _ _ (omega arith)
     (slice_get_read c.args.table.now _ _ _ refl (omega arith) c.index-table-p.is) (slice_get_read c.args.table.now _ _ _ refl (omega arith) c.index-table-at.is)
-    (λ first. c.if-block-start-p.false (c.block-start.ensures.value ∙ first)) ready)
+    (λ first. c.if-block_start-p.false (c.block_start.ensures.value ∙ first)) ready)

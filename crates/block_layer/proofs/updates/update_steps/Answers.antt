@@ -1,38 +1,38 @@
-use Rattle.std.proofs.Common.{◌≡◌, ◌+◌, ◌^◌, ◌<◌, ◌≤◌, refl, ap, arith, length-set, rules}
+use Rattle.std.proofs.Common.{◌+◌, refl, arith, length-set, rules}
 use Rattle.scheme.proofs.Exponents.{exponent_few}
 use Rattle.scheme.specs.Exponent.{exponent}
-use Rattle.layer_parts.specs.Layout.{layout_step, layout_steps, layer_plan}
+use Rattle.layer_parts.specs.Layout.{layout_step, layer_plan}
 use Rattle.layer_parts.proofs.Layouts.{at_first, at_end}
 use Rattle.layer_parts.proofs.Renewing.{renewed_none, renewed_more, layer_renewed}
 use Rattle.block_layer.proofs.Walks.{walk_falls, walk_exponents, walk_step, walk_next, walk_fits, walk_on}
 use Rattle.block_layer.proofs.updates.update_steps.Goals as goal
 
 pub loop-e-init : goal.loop-e-init
-loop-e-init g c = simp c.exponent-of-e.ensures.value (0, at_first _ _ (exponent_few c.args.n (omega arith)), omega arith, renewed_none _ _ _ _ _)
+loop-e-init g c = simp c.exponent_of-e.ensures.value (0, at_first _ _ (exponent_few c.args.n (omega arith)), omega arith, renewed_none _ _ _ _ _)
 
-pub child-exponent-f-requires : goal.child-exponent-f-requires
-child-exponent-f-requires g c = (omega arith, c.loop-e.invariant.1.low)
+pub child_exponent-f-requires : goal.child_exponent-f-requires
+child_exponent-f-requires g c = (omega arith, c.loop-e.invariant.1.low)
 
-pub update-step-requires : goal.update-step-requires
-update-step-requires g c =
+pub update_step-requires : goal.update_step-requires
+update_step-requires g c =
     let inv = c.loop-e.invariant in
-    record { event = c.requires.event; step = walk_fits _ (g.met.S.Scheme.sound c.args.inner.now) c.args.n inv.0 c.loop-e.e _ (omega arith) (omega arith) inv.1 (omega arith) c.child-exponent-f.ensures.told c.loop-e.at inv.2 (omega arith) _ (omega (arith, length-set c.args.table.now c.args.p.0 c.args.element)) }
+    record { event = c.requires.event; step = walk_fits _ (g.met.S.Scheme.sound c.args.inner.now) c.args.n inv.0 c.loop-e.e _ (omega arith) (omega arith) inv.1 (omega arith) c.child_exponent-f.ensures.told c.loop-e.at inv.2 (omega arith) _ (omega (arith, length-set c.args.table.now c.args.p.0 c.args.element)) }
 
-pub step-cells-requires : goal.step-cells-requires
-step-cells-requires g c =
+pub step_cells-requires : goal.step_cells-requires
+step_cells-requires g c =
     let inv = c.loop-e.invariant in
-    walk_exponents _ (g.met.S.Scheme.sound c.args.inner.now) c.args.n inv.0 c.loop-e.e _ (omega arith) (omega arith) inv.1 (omega arith) c.child-exponent-f.ensures.told
+    walk_exponents _ (g.met.S.Scheme.sound c.args.inner.now) c.args.n inv.0 c.loop-e.e _ (omega arith) (omega arith) inv.1 (omega arith) c.child_exponent-f.ensures.told
 
-pub overflow-add-at : goal.overflow-add-at
-overflow-add-at g c =
+pub overflow_add-at : goal.overflow_add-at
+overflow_add-at g c =
     let inv = c.loop-e.invariant in
-    let next = walk_on _ (g.met.S.Scheme.sound c.args.inner.now) c.args.n inv.0 c.loop-e.e _ (omega arith) (omega arith) inv.1 (omega arith) c.child-exponent-f.ensures.told c.loop-e.at inv.2 (omega arith) c.step-cells.result c.step-cells.ensures.counted in
+    let next = walk_on _ (g.met.S.Scheme.sound c.args.inner.now) c.args.n inv.0 c.loop-e.e _ (omega arith) (omega arith) inv.1 (omega arith) c.child_exponent-f.ensures.told c.loop-e.at inv.2 (omega arith) c.step_cells.result c.step_cells.ensures.counted in
     search rules
 
 pub loop-e-smaller : goal.loop-e-smaller
 loop-e-smaller g c =
     let inv = c.loop-e.invariant in
-    walk_falls _ (g.met.S.Scheme.sound c.args.inner.now) c.args.n inv.0 c.loop-e.e _ (omega arith) (omega arith) inv.1 (omega arith) c.child-exponent-f.ensures.told
+    walk_falls _ (g.met.S.Scheme.sound c.args.inner.now) c.args.n inv.0 c.loop-e.e _ (omega arith) (omega arith) inv.1 (omega arith) c.child_exponent-f.ensures.told
 
 pub loop-e-preserved : goal.loop-e-preserved
 loop-e-preserved g c =
@@ -42,13 +42,13 @@ loop-e-preserved g c =
     let inv = c.loop-e.invariant in
     let s = inv.0 in
     let e = c.loop-e.e in
-    let f = c.child-exponent-f.result in
-    let told = c.child-exponent-f.ensures.told in (
+    let f = c.child_exponent-f.result in
+    let told = c.child_exponent-f.ensures.told in (
       s + 1,
       walk_next plan sound n s e f (omega arith) (omega arith) inv.1 (omega arith) told,
-      (walk_on plan sound n s e f (omega arith) (omega arith) inv.1 (omega arith) told c.loop-e.at inv.2 (omega arith) c.step-cells.result c.step-cells.ensures.counted).0,
+      (walk_on plan sound n s e f (omega arith) (omega arith) inv.1 (omega arith) told c.loop-e.at inv.2 (omega arith) c.step_cells.result c.step_cells.ensures.counted).0,
       renewed_more g.T.Semigroup.op n c.args.p.0 (layout_step plan n (exponent n)) s n _ c.loop-e.table _ (omega arith) inv.3
-          (rw (walk_step plan sound n s e f (omega arith) (omega arith) inv.1 (omega arith) told, inv.2) at c.update-step.ensures),
+          (rw (walk_step plan sound n s e f (omega arith) (omega arith) inv.1 (omega arith) told, inv.2) at c.update_step.ensures),
     )
 
 pub returns : goal.returns

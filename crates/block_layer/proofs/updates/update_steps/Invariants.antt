@@ -1,4 +1,4 @@
-use Rattle.std.proofs.Common.{◌≡◌, ℕ, ◌+◌, set}
+use Rattle.std.proofs.Common.{◌≡◌, ℕ, ◌+◌}
 use Rattle.scheme.specs.Exponent.{exponent}
 use Rattle.layer_parts.specs.Layout.{layout_steps}
 use Rattle.layer_parts.specs.Writes.{PartRenewed}
