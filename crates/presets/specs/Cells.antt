@@ -1,6 +1,6 @@
 -- How many cells a layer of blocks takes at most, given what a table over the children of one parent takes.
 use Rattle.std.specs.Prelude.{◌≡◌, ℕ, zero, suc, ◌+◌, ◌-◌, ◌*◌, ◌/◌, ◌^◌, ◌<◌, ◌≤◌, min}
-use Rattle.std.proofs.Common.{sym, ap, ◌∙◌, ⊎_elim, arith, add-mul, mul-add, one-mul, zero-mul, suc-mul, mul_assoc, mul_left_comm, pow_mono}
+use Rattle.std.proofs.Common.{sym, ap, ◌∙◌, ⊎_elim, arith, add-mul, mul-add, one-mul, zero-mul, suc-mul, mul_assoc, mul_left_comm}
 use Rattle.std.proofs.Math.Nat.{mul-add-div_right}
 use Rattle.std.proofs.lemmas.Nat.{pow_pos, pow-add, div-add-mod', mod_below, div_below, le-div, mul-le}
 use Rattle.std.proofs.lemmas.Bool.{cases_lt}

@@ -1,5 +1,7 @@
 //! The six presets: for each budget from 1 to 6 a scheme whose runs have no more pieces than that.
 
+#![tactic(auto)]
+
 ghost use Rattle.std.specs.Prelude.{◌≡◌, ◌<◌, ◌⊎◌, MatchOption};
 ghost use Rattle.presets.specs.Presets.{preset_plan, CellCount};
 

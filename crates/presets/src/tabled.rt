@@ -1,7 +1,6 @@
 //! Schemes that read their child exponents from the table.
 
 ghost use Rattle.std.specs.Prelude.{◌≡◌, ◌<◌, ◌≤◌};
-ghost use Rattle.std.proofs.Common.{rules};
 
 use crate::Preset;
 use crate::child_exponents::tabled_child;
@@ -50,7 +49,7 @@ pub(crate) struct ByTable<S>(pub(crate) S);
 impl<S: InTable> Scheme for ByTable<S> {
     ghost plan = { λ s. S.Scheme.plan s.0 };
 
-    ghost sound = { Prim.search rules };
+    ghost sound = { λ s. S.Scheme.sound s.0 };
 
     fn child_exponent(&self, e: u32) -> u32 {
         self.0.row_entry(e)
