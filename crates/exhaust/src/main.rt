@@ -1,5 +1,7 @@
 //! Brute force: every run of small days and random runs of full ones, each answer against the plain product.
 
+#![tactic(auto)]
+
 mod check;
 mod sample;
 
