@@ -1,6 +1,8 @@
 //! An index on the example day, step by step: drafted, refused, built, queried, corrected and queried again. It asks for
 //! chain maps, under the flat scheme and then under halving.
 
+#![tactic(auto)]
+
 mod steps;
 
 use anyhow::anyhow;
