@@ -1,4 +1,4 @@
-use Rattle.std.proofs.Common.{ap}
+use Rattle.std.proofs.Common.{ap, rules}
 use Rattle.std.proofs.lemmas.Bool.Decides.{not_from_Decides}
 use Rattle.records.specs.Fields.{header_of}
 use Rattle.records.proofs.Sections.{section_turn}
@@ -13,7 +13,8 @@ returns-then-not-is_lawful c =
     let event-is = the_event c.args.file.now _ _ c.decode.result turn.bytes c.decode.ensures.fields in
     let test = event_test _ _ _ _ _ (ap (λ h. h.codes) c.requires.read) event-is c.is_lawful.ensures.lawful in
     let bad = not_from_Decides _ test c.if-not-is_lawful.true in
-    record { first = (c.requires.headed, c.requires.codes, first_bad (GoodEvent c.args.file.now) _ _ _ turn.place turn.below inv.1 bad) }
+    let first = first_bad (GoodEvent c.args.file.now) _ _ _ turn.place turn.below inv.1 bad in
+    search rules
 
 pub loop-record-preserved : goal.loop-record-preserved
 loop-record-preserved c =

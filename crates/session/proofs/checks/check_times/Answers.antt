@@ -1,3 +1,4 @@
+use Rattle.std.proofs.Common.{◌<◌, ◌≤◌, arith, rules}
 use Rattle.records.specs.Fields.{header_of}
 use Rattle.records.proofs.Sections.{section_turn}
 use Rattle.session.specs.Rules.{InOrder}
@@ -9,13 +10,18 @@ returns-then-event-latest c =
     let inv = c.loop-record.invariant in
     let turn = section_turn 16 c.args.file.now (header_of c.args.file.now).events_at (header_of c.args.file.now).events c.loop-record.record-iterator c.next.new.self c.in-Some.record inv.0 c.in-Some.ensures.steps in
     let event-is = the_event c.args.file.now _ _ c.decode-event.result turn.bytes c.decode-event.ensures.fields in
-    let bad = time_falls _ _ _ _ inv.2 event-is c.if-event-latest.true in
-    record { first = (c.requires.headed, c.requires.codes, c.requires.events, first_bad (InOrder c.args.file.now) _ _ _ turn.place turn.below inv.1 bad) }
+    let earlier : c.decode-event.result.time < c.loop-record.latest = omega arith in
+    let bad = time_falls _ _ _ _ inv.2 event-is earlier in
+    let first = first_bad (InOrder c.args.file.now) _ _ _ turn.place turn.below inv.1 bad in
+    search rules
 
 pub loop-record-preserved : goal.loop-record-preserved
 loop-record-preserved c =
     let inv = c.loop-record.invariant in
     let turn = section_turn 16 c.args.file.now (header_of c.args.file.now).events_at (header_of c.args.file.now).events c.loop-record.record-iterator c.next.new.self c.in-Some.record inv.0 c.in-Some.ensures.steps in
     let event-is = the_event c.args.file.now _ _ c.decode-event.result turn.bytes c.decode-event.ensures.fields in
-    let good = time_stands _ _ _ _ inv.2 event-is c.if-event-latest.false in
-    (turn.still, one_more (InOrder c.args.file.now) _ _ turn.next inv.1 good, latest_more _ _ _ _ turn.next event-is)
+    let later : c.loop-record.latest ≤ c.decode-event.result.time = omega arith in
+    let good = time_stands _ _ _ _ inv.2 event-is later in
+    let below = one_more (InOrder c.args.file.now) _ _ turn.next inv.1 good in
+    let latest = latest_more _ _ _ _ turn.next event-is in
+    (turn.still, below, search rules)

@@ -1,4 +1,4 @@
-use Rattle.std.proofs.Common.{ℕ, Ok, Err, refl}
+use Rattle.std.proofs.Common.{ℕ, Ok, Err, rules}
 use Rattle.std.proofs.lemmas.Result.{err_from_is_err_and}
 use Rattle.std.proofs.lemmas.Bool.{le-leb}
 use Rattle.session.proofs.Once.{decides, refuses}
@@ -15,9 +15,11 @@ pub returns : goal.returns
 returns c =
     let whole = c.in_ok-header.ensures.first in
     let lie = whole.0.header.sections in
+    let codes = le-leb _ _ lie.codes_fit in
+    let events = le-leb _ _ lie.events_fit in
     record {
       accepted = decides {X = ℕ} _ (Ok 0) whole.0;
       refused = refuses _ (Ok _) whole.0;
       numbered = told {X = ℕ} _ (Ok 0) whole.0;
-      file = record { its_bytes = refl; its_header = whole.1; codes_within = le-leb _ _ lie.codes_fit; events_within = le-leb _ _ lie.events_fit };
+      file = search rules;
     }
