@@ -1,4 +1,5 @@
 //! Opens damaged session files, each at a limit of a rule or one past it, and prints what becomes of it.
+#![tactic(auto)]
 
 mod files;
 mod sample;
