@@ -1,5 +1,6 @@
 //! Lists the session file `day.ses` of the current folder: its header, its events, a line each, and the products of the
 //! whole day. A missing file is an empty one.
+#![tactic(auto)]
 
 use day::entries_of;
 use kinds::chain_map::ChainMap;
