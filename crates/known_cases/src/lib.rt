@@ -1,5 +1,7 @@
 //! Worked examples of the presets, the layouts and the elements.
 
+#![tactic(auto)]
+
 ghost use Rattle.std.specs.Prelude.{◌≡◌};
 ghost use Rattle.scheme.specs.Calls.{Events};
 ghost use Rattle.presets.specs.Presets.{preset_plan};
