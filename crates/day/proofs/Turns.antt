@@ -5,7 +5,7 @@ use Rattle.records.specs.declared.record.Event.{Event}
 use Rattle.records.specs.Fields.{event_of}
 use Rattle.records.specs.Parts.{part, fits}
 use Rattle.kinds.specs.declared.kind.Entry.{Entry}
-use Rattle.day.specs.Day.{entry_of, first_entries}
+use Rattle.day.specs.Day.{numbered_entry, first_entries}
 
 -- the start of a section that has a record is the one told
 its_start : (t : Bool) (start count at : ℕ) → at < cond t count 0 → cond t start 0 ≡ start
@@ -13,7 +13,7 @@ its_start true start count at h = refl
 its_start false start count at h = absurd (omega arith)
 
 pub one_more : (b : List ℕ) (h : Header) (at next place : ℕ) (bytes : List ℕ) (event : Event) (entry : Entry) (es : List Entry)
-    → entry ≡ entry_of b h place event → place ≡ at
+    → entry ≡ numbered_entry b h place event → place ≡ at
     → at < cond (fits 16 b h.events_at h.events) h.events 0 → next ≡ at + 1
     → bytes ≡ part 16 b (cond (fits 16 b h.events_at h.events) h.events_at 0) at
     → event ≡ event_of bytes → es ≡ first_entries b h at

@@ -9,12 +9,12 @@ use Rattle.session.specs.Opened.{code_from}
 use Rattle.kinds.specs.declared.kind.Entry.{Entry}
 
 -- an event at a place, with its number (the place, of which there are 65,536) and the record of its code, which is all zeros where the file lacks it
-abbrev pub entry_of : List ℕ → Header → ℕ → Event → Entry
-entry_of b h k e = record { number = k % 65536; event = e; code = unwrap_or (code_from b h e.code) (code_of []) }
+abbrev pub numbered_entry : List ℕ → Header → ℕ → Event → Entry
+numbered_entry b h k e = record { number = k % 65536; event = e; code = unwrap_or (code_from b h e.code) (code_of []) }
 
 -- the entry of the event at a place of the section that a header tells
 abbrev pub entry_at : List ℕ → Header → ℕ → Entry
-entry_at b h k = entry_of b h k (event_of (part 16 b h.events_at k))
+entry_at b h k = numbered_entry b h k (event_of (part 16 b h.events_at k))
 
 -- the entries of the first n events, in their order
 abbrev pub first_entries : List ℕ → Header → ℕ → List Entry

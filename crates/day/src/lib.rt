@@ -3,7 +3,7 @@
 #![tactic(auto)]
 
 ghost use Rattle.std.specs.Prelude.{◌≡◌, IfOk};
-ghost use Rattle.day.specs.Day.{entry_of, day_of};
+ghost use Rattle.day.specs.Day.{numbered_entry, day_of};
 
 use kinds::kind::Entry;
 use records::record::{Code, Event};
@@ -13,7 +13,7 @@ use std::alloc::{AllocError, Global};
 /// An event of a file, with its number and the record of its code. A code that the file lacks is read as all zeros; an
 /// accepted file lacks none.
 fn entry_of(file: &SessionFile, place: usize, event: Event) -> Entry
-    ensures value { result ≡ entry_of file.now.bytes.now file.now.header place event }
+    ensures value { result ≡ numbered_entry file.now.bytes.now file.now.header place event }
 {
     let number = (place % 65_536) as u16;
     let code = file.code_at(event.code as usize);

@@ -1,4 +1,4 @@
--- What stands at a place of a list, `nth`, after a write and in a part.
+-- What stands at a place of a list, `slice_get`, after a write and in a part.
 use Rattle.std.proofs.Common.{◌≡◌, ℕ, zero, suc, ◌+◌, ◌<◌, ◌≢◌, List, [], ◌∷◌, ◌++◌, length, take, drop, set, Some, refl, ap, suc-add, zero-add, arith}
 use Rattle.std.specs.List.{slice_get}
 
