@@ -1,11 +1,11 @@
 -- Texts put one after the other, and one digit more of a number.
-use Rattle.std.proofs.Common.{◌≡◌, ℕ, ◌+◌, ◌-◌, ◌/◌, ◌%◌, ◌^◌, ◌<◌, ◌≤◌, Bool, true, cond, leb, List, [], ◌∷◌, ◌++◌, length, take, drop, set, ℤ, pos, negsuc, nat_abs, ◌≤ℤ◌, ◌<ℤ◌, decimal, sym, refl, ap, ◌∙◌, add-one, arith, rules}
+use Rattle.std.proofs.Common.{◌≡◌, ℕ, ◌+◌, ◌-◌, ◌/◌, ◌%◌, ◌^◌, ◌<◌, ◌≤◌, Bool, true, false, cond, leb, List, [], ◌∷◌, ◌++◌, length, take, drop, set, ℤ, pos, negsuc, nat_abs, ◌≤ℤ◌, ◌<ℤ◌, Some, None, decimal, sym, refl, ap, ◌∙◌, add-one, arith, rules}
 use lib.Seq.{paste}
 use Rattle.std.specs.Fmt.{signed_decimal}
 use Rattle.std.proofs.lemmas.List.{set_split, set-append_right, append_assoc, drop_more, length-take-le, length_push, length-append, length-take, length-drop}
 use Rattle.std.proofs.lemmas.List.Edits.{paste_all, paste-paste}
 use Rattle.std.proofs.lemmas.Fmt.{decimal_step}
-use Rattle.decimal.specs.Put.{put, placed}
+use Rattle.decimal.specs.Put.{put, placed, placed_end}
 
 -- one byte
 pub put_one : (xs : List ℕ) (at b : ℕ) → at < length xs → set xs at b ≡ put xs at (b ∷ [])
@@ -56,6 +56,18 @@ module _ (xs : List ℕ) (at len : ℕ) (text : List ℕ) (long : len ≡ length
   pub placed_fits : true ≡ leb (at + len) (length xs) → placed xs at text ≡ put xs at text
   unfolding placed
   placed_fits h = ap (λ b. cond b (put xs at text) xs) (tested true h)
+
+  pub end_fits : true ≡ leb (at + len) (length xs) → placed_end xs at text ≡ Some (at + length text)
+  unfolding placed_end
+  end_fits h = ap (λ b. cond b (Some (at + length text)) None) (tested true h)
+
+  pub placed_not : false ≡ leb (at + len) (length xs) → placed xs at text ≡ xs
+  unfolding placed
+  placed_not h = ap (λ b. cond b (put xs at text) xs) (tested false h)
+
+  pub end_not : false ≡ leb (at + len) (length xs) → placed_end xs at text ≡ None
+  unfolding placed_end
+  end_not h = ap (λ b. cond b (Some (at + length text)) None) (tested false h)
 
 -- three texts, each put where the one before ends
 pub put_three : (xs ys zs ts : List ℕ) (at p q r : ℕ) (us vs ws : List ℕ) → at + length (us ++ (vs ++ ws)) ≤ length xs

@@ -1,7 +1,7 @@
 -- What holds of each event's element, and stays true with one event more, holds of every run's product.
-use Rattle.std.specs.Prelude.{◌≡◌, ℕ, List, [], ◌∷◌, ◌++◌, map, Some}
+use Rattle.std.specs.Prelude.{◌≡◌, ℕ, ◌+◌, ◌<◌, List, [], ◌∷◌, ◌++◌, map, length, take, Some, slice_index_or}
 use Rattle.std.proofs.Common.{sym, ap, subst, ◌∙◌, append_assoc, append-nil, arith}
-use Rattle.std.proofs.lemmas.List.{take-map, drop-map}
+use Rattle.std.proofs.lemmas.List.{map-append, take_more, take-map, drop-map}
 use Rattle.semigroup.specs.Product.{after, product, run, over}
 
 module _ {A B : Type 0} (op : B → B → B) (element : A → B) (Means : List A → B → Type 0)
@@ -27,3 +27,11 @@ pub over_means : {A B : Type 0} (op : B → B → B) (element : A → B) (Means 
     → (es : List A) (xs : List B) → xs ≡ map element es → (a b : ℕ) (m : B) → over op xs a b ≡ Some m → Means (run es a b) m
 unfolding over
 over_means op element Means law es xs same a b m h = law (run es a b) m (ap (product op) (sym (run_elements element es a b)) ∙ ap (λ ys. product op (run ys a b)) (sym same) ∙ h)
+
+-- one element more
+pub one_more : {A B : Type 0} (element : A → B) (es : List A) (i : ℕ) (d : A) (x : B) (xs : List B) → i < length es → x ≡ element (slice_index_or es i d)
+    → xs ≡ map element (take i es) → xs ++ (x ∷ []) ≡ map element (take (i + 1) es)
+one_more element es i d x xs h at was =
+    let more = take_more es i d h in
+    let split = map-append element (take i es) (slice_index_or es i d ∷ []) in
+    cc
