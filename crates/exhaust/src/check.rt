@@ -1,9 +1,8 @@
 //! Answers, traces and updates against a plain list.
 
 use crate::sample::Random;
-use crate::tally::Tally;
 use anyhow::anyhow;
-use index::{Built, Draft, IndexFault};
+use index::{Built, Draft};
 use kinds::chain_map::ChainMap;
 use scheme::{Answer, CellNo, EventNo, Piece, Scheme};
 use semigroup::product_of;
@@ -16,8 +15,47 @@ const NO_PIECE: Piece = Piece {
     last: EventNo(0),
 };
 
-/// How many random calls are made on a long day.
-const RANDOM_CALLS: u32 = 2_000;
+/// How many random runs are asked for of a full day.
+const RANDOM_RUNS: u32 = 100;
+
+/// How many answers were checked, and how many were not what they should be.
+#[derive(Drop)]
+pub(crate) struct Tally {
+    days: u64,
+    runs: u64,
+    mismatches: u64,
+}
+
+impl Tally {
+    pub(crate) fn new() -> Tally {
+        Tally {
+            days: 0,
+            runs: 0,
+            mismatches: 0,
+        }
+    }
+
+    pub(crate) fn tell(&self, rt: &HostRuntime, what: &str) -> anyhow::Result<()> {
+        let Tally {
+            days,
+            runs,
+            mismatches,
+        } = self;
+        println!(rt; "{what}: days {days}, runs {runs}, mismatches {mismatches}")?;
+        Ok(())
+    }
+
+    fn day(&mut self) {
+        self.days = self.days.saturating_add(1);
+    }
+
+    fn count(&mut self, right: bool) {
+        self.runs = self.runs.saturating_add(1);
+        if !right {
+            self.mismatches = self.mismatches.saturating_add(1);
+        }
+    }
+}
 
 /// Two chain maps are the same if they send 0 and 1 to the same.
 fn same(a: ChainMap, b: ChainMap) -> bool {
@@ -51,19 +89,10 @@ fn drawn(
     Ok(product_of(&held))
 }
 
-/// An index over a table of a random day, with its scheme's budget, and the day's plain list.
-#[derive(Drop)]
-struct Day<S> {
-    built: Built<S>,
-    budget: u64,
-    items: Vec<ChainMap>,
-    table: Vec<ChainMap>,
-}
-
 /// Whether an answer is the plain product, drawn from pieces that follow one another, no more than the budget.
-fn right<S>(
+fn right(
     rt: &HostRuntime,
-    day: &Day<S>,
+    table: &[ChainMap],
     plain: Option<ChainMap>,
     answer: &Answer<ChainMap>,
     trace: &[Piece],
@@ -73,11 +102,18 @@ fn right<S>(
     let Some(pieces) = trace.get(0..count) else {
         return Ok(false);
     };
-    let (Some(plain), Some(held)) = (plain, drawn(rt, &day.table, pieces)?) else {
+    let (Some(plain), Some(held)) = (plain, drawn(rt, table, pieces)?) else {
         return Ok(false);
     };
-    let few = count as u64 <= day.budget;
-    Ok(few && same(plain, answer.value) && same(held, answer.value) && follow(pieces, i, j))
+    Ok(same(plain, answer.value) && same(held, answer.value) && follow(pieces, i, j))
+}
+
+/// An index over a table of a random day, and the day's plain list.
+#[derive(Drop)]
+struct Day<S> {
+    built: Built<S>,
+    items: Vec<ChainMap>,
+    table: Vec<ChainMap>,
 }
 
 /// So many random elements.
@@ -100,7 +136,6 @@ fn build<S: Scheme + Drop>(
     scheme: S,
     n: u32,
 ) -> anyhow::Result<Day<S>> {
-    let budget = scheme.budget();
     let Ok(draft) = Draft::new(scheme, n) else {
         return Err(anyhow!("not drafted"));
     };
@@ -114,7 +149,6 @@ fn build<S: Scheme + Drop>(
     };
     Ok(Day {
         built,
-        budget,
         items,
         table,
     })
@@ -136,10 +170,10 @@ fn ask<S: Scheme>(
         .built
         .query(&day.table, EventNo(i), EventNo(j), &mut trace)
     {
-        Ok(answer) => right(rt, day, plain, &answer, &trace, (i, j))?,
+        Ok(answer) => right(rt, &day.table, plain, &answer, &trace, (i, j))?,
         Err(_) => false,
     };
-    tally.run(is_right);
+    tally.count(is_right);
     Ok(())
 }
 
@@ -173,49 +207,19 @@ fn all_runs<S: Scheme>(
 /// Puts a random element in the place of an item, in the index and in the plain list.
 fn change<S: Scheme>(random: &mut Random, tally: &mut Tally, day: &mut Day<S>, p: u32) {
     let element = random.chain_map();
-    let done = day.built.update(&mut day.table, EventNo(p), element);
-    tally.update(done.is_ok());
+    if day
+        .built
+        .update(&mut day.table, EventNo(p), element)
+        .is_err()
+    {
+        tally.count(false);
+    }
     if let Some(item) = day.items.get_mut(p as usize) {
         *item = element;
     }
 }
 
-/// Whether a call was refused with this number.
-fn is_refused<T: Drop>(res: Result<T, IndexFault>, number: u32) -> bool {
-    match res {
-        Ok(_) => false,
-        Err(fault) => fault.number() == number,
-    }
-}
-
-/// Whether a run is refused if its trace has one place fewer than the run has pieces.
-fn short_trace_refused<S: Scheme>(day: &Day<S>, (i, j): (u32, u32)) -> bool {
-    let (i, j) = (EventNo(i), EventNo(j));
-    let mut trace = [NO_PIECE; 8];
-    let Ok(answer) = day.built.query(&day.table, i, j, &mut trace) else {
-        return false;
-    };
-    let Some(short) = trace.get_mut(0..answer.combinations as usize) else {
-        return false;
-    };
-    is_refused(day.built.query(&day.table, i, j, short), 11)
-}
-
-/// Calls that must be refused: an update and a run past the last event, and a trace that is too short.
-fn refused_calls<S: Scheme>(random: &mut Random, tally: &mut Tally, day: &mut Day<S>, n: u32) {
-    let element = random.chain_map();
-    let update = day.built.update(&mut day.table, EventNo(n), element);
-    tally.refusal(is_refused(update, 10));
-    let (i, j) = random.run(n);
-    let mut trace = [NO_PIECE; 8];
-    let query = day
-        .built
-        .query(&day.table, EventNo(i), EventNo(n), &mut trace);
-    tally.refusal(is_refused(query, 10));
-    tally.refusal(short_trace_refused(day, (i, j)));
-}
-
-/// Asks for every run of n events, then changes item after item, and asks for every run again after each.
+/// Asks for every run of n events, changes every item, and asks for every run again.
 pub(crate) fn every_run<S: Scheme + Drop>(
     rt: &HostRuntime,
     random: &mut Random,
@@ -228,36 +232,13 @@ pub(crate) fn every_run<S: Scheme + Drop>(
     all_runs(rt, tally, &day, n)?;
     for p in 0..n {
         change(random, tally, &mut day, p);
-        refused_calls(random, tally, &mut day, n);
-        all_runs(rt, tally, &day, n)?;
     }
+    all_runs(rt, tally, &day, n)?;
     Ok(())
 }
 
-/// Asks for a random run, changes a random item, or makes calls that must be refused.
-fn random_call<S: Scheme>(
-    rt: &HostRuntime,
-    random: &mut Random,
-    tally: &mut Tally,
-    day: &mut Day<S>,
-    n: u32,
-) -> Result<(), AllocError> {
-    match random.below(8) {
-        0..=3 => {
-            let run = random.run(n);
-            ask(rt, tally, day, run)?;
-        }
-        4..=6 => {
-            let p = random.below(n);
-            change(random, tally, day, p);
-        }
-        _ => refused_calls(random, tally, day, n),
-    }
-    Ok(())
-}
-
-/// Makes random calls on a day of n events, and asks for the whole day.
-pub(crate) fn random_calls<S: Scheme + Drop>(
+/// Asks for random runs of n events, and changes a random item after each.
+pub(crate) fn random_runs<S: Scheme + Drop>(
     rt: &HostRuntime,
     random: &mut Random,
     tally: &mut Tally,
@@ -266,8 +247,12 @@ pub(crate) fn random_calls<S: Scheme + Drop>(
 ) -> anyhow::Result<()> {
     let mut day = build(rt, random, scheme, n)?;
     tally.day();
-    for _ in 0..RANDOM_CALLS {
-        random_call(rt, random, tally, &mut day, n)?;
+    for _ in 0..RANDOM_RUNS {
+        let j = random.below(n);
+        let i = random.below(j.saturating_add(1));
+        ask(rt, tally, &day, (i, j))?;
+        let p = random.below(n);
+        change(random, tally, &mut day, p);
     }
     ask(rt, tally, &day, (0, n.saturating_sub(1)))?;
     Ok(())

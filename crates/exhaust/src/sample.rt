@@ -28,13 +28,6 @@ impl Random {
         if limit == 0 { 0 } else { number % limit }
     }
 
-    /// The first and the last event of a run of n events.
-    pub(crate) fn run(&mut self, n: u32) -> (u32, u32) {
-        let j = self.below(n);
-        let i = self.below(j.saturating_add(1));
-        (i, j)
-    }
-
     /// The chain map of an event with a random factor and quantity.
     pub(crate) fn chain_map(&mut self) -> ChainMap {
         let quantity = self.next_u32();

@@ -1,9 +1,8 @@
 //! An index on the example day, step by step: drafted, refused, built, queried, corrected and queried again. It asks for
-//! chain maps, under the flat scheme and then under halving. Last, one query under each of the six presets.
+//! chain maps, under the flat scheme and then under halving.
 
 #![tactic(auto)]
 
-mod budgets;
 mod steps;
 
 use anyhow::anyhow;
@@ -12,9 +11,10 @@ use basic_schemes::halving::Halving;
 use day::entries_of;
 use index::Draft;
 use kinds::chain_map::ChainMap;
-use kinds::kind::{Entry, Kind};
+use kinds::kind::{Entry, Kind, elements_of};
 use scheme::Scheme;
 use session::file::{SessionFile, open};
+use std::alloc::AllocError;
 use std::fs;
 
 /// Event 1 as it should have been: with code 0, whose factor is 1.
@@ -22,6 +22,17 @@ fn corrected_entry(file: &SessionFile, entries: &[Entry]) -> Option<Entry> {
     let entry = *entries.get(1)?;
     let code = file.code_at(0)?;
     Some(Entry { code, ..entry })
+}
+
+/// A table of so many cells, whose first cells are the elements of the entries.
+fn table_of(rt: &HostRuntime, entries: &[Entry], cells: u64) -> Result<Vec<ChainMap>, AllocError> {
+    let mut table = elements_of::<ChainMap>(rt.alloc(), entries)?;
+    if let Some(first) = table.first().copied() {
+        for _ in entries.len() as u64..cells {
+            table.push(first)?;
+        }
+    }
+    Ok(table)
 }
 
 /// Drafts an index under a scheme, builds it, asks, corrects event 1 and asks again.
@@ -38,7 +49,7 @@ fn walk<S: Scheme + Drop>(
     };
     let cells = draft.cells();
     println!(rt; "{name}: drafted for {n} events, {cells} cells")?;
-    let mut table = steps::table_of(rt, entries, cells)?;
+    let mut table = table_of(rt, entries, cells)?;
     let draft = steps::build_short(rt, draft, &mut table)?;
     let Ok(built) = draft.build(&mut table) else {
         return Err(anyhow!("not built"));
@@ -63,8 +74,7 @@ fn run(rt: &HostRuntime) -> anyhow::Result<()> {
     let corrected = ChainMap::of_entry(&entry);
     steps::draft_of_none(rt)?;
     walk(rt, "flat", Flat, n, &entries, corrected)?;
-    walk(rt, "halving", Halving, n, &entries, corrected)?;
-    budgets::all(rt, n, &entries)
+    walk(rt, "halving", Halving, n, &entries, corrected)
 }
 
 fn main(rt: HostRuntime) -> anyhow::Result<()> {

@@ -4,13 +4,12 @@ use anyhow::anyhow;
 use basic_schemes::flat::Flat;
 use index::{Built, Draft, IndexFault, Refused};
 use kinds::chain_map::ChainMap;
-use kinds::kind::{Entry, Kind, elements_of};
+use kinds::kind::Kind;
 use scheme::{Answer, CellNo, EventNo, Piece, Scheme};
-use std::alloc::AllocError;
 use std::str::from_utf8;
 
 /// What a trace holds where nothing was written.
-pub(crate) const NO_PIECE: Piece = Piece {
+const NO_PIECE: Piece = Piece {
     cell: CellNo(0),
     first: EventNo(0),
     last: EventNo(0),
@@ -27,21 +26,6 @@ pub(crate) fn draft_of_none(rt: &HostRuntime) -> anyhow::Result<()> {
         Ok(_) => Err(anyhow!("drafted with no events")),
         Err(fault) => tell_refusal(rt, "a draft of no events", fault),
     }
-}
-
-/// A table of so many cells, whose first cells are the elements of the entries.
-pub(crate) fn table_of(
-    rt: &HostRuntime,
-    entries: &[Entry],
-    cells: u64,
-) -> Result<Vec<ChainMap>, AllocError> {
-    let mut table = elements_of::<ChainMap>(rt.alloc(), entries)?;
-    if let Some(first) = table.first().copied() {
-        for _ in entries.len() as u64..cells {
-            table.push(first)?;
-        }
-    }
-    Ok(table)
 }
 
 /// A build over a table that lacks its last cell, which hands the draft back.
@@ -83,7 +67,7 @@ fn tell_answer(
 }
 
 /// Asks for a run, with so much room for the trace.
-pub(crate) fn ask<S: Scheme>(
+fn ask<S: Scheme>(
     rt: &HostRuntime,
     built: &Built<S>,
     table: &[ChainMap],
