@@ -1,3 +1,4 @@
 pub mod Spans
 pub mod VastPlan
+pub mod Vastness
 pub mod VastSound

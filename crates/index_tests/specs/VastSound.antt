@@ -6,6 +6,9 @@ use Rattle.scheme.specs.Plan.{Sound, Covers, done, goes}
 use Rattle.basic_schemes.specs.FlatPlan.{flat_plan}
 use Rattle.basic_schemes.specs.FlatLayout.{flat_sound}
 use Rattle.index_tests.specs.VastPlan.{vast_plan}
+use Rattle.index_tests.specs.Vastness.{plan_of_vast}
+use Rattle.index_tests.specs.declared.vast.Vast.{Vast}
+use Rattle.index_tests.specs.declared.vast.Vast.TheVariants.{Uncounted, Counted}
 
 -- what covers a run in the smaller table covers it here
 covers_still : (n i j : ℕ) (cs : List ℕ) → Covers (flat_plan.part n) i j cs → Covers (vast_plan.part n) i j cs
@@ -26,3 +29,8 @@ vast_sound = record {
   few = flat_sound.few;
   falls = flat_sound.falls;
 }
+
+-- with the cells more and without
+pub plan_of_vast_sound : (v : Vast) → Sound (plan_of_vast v)
+plan_of_vast_sound Uncounted = vast_sound
+plan_of_vast_sound Counted = flat_sound

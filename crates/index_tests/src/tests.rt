@@ -109,7 +109,7 @@ fn other_tables_too_short(rt: HostRuntime) -> Result<(), Fail> {
 
 #[test]
 fn cells_uncounted(rt: HostRuntime) -> Result<(), Fail> {
-    let draft = granted(Draft::new(Vast, 3))?;
+    let draft = granted(Draft::new(Vast::Uncounted, 3))?;
     match draft.build(&mut TABLE) {
         Ok(_) => Err(Fail::new("built")),
         Err(refused) => {
