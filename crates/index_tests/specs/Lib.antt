@@ -1,4 +1,3 @@
 pub mod Spans
 pub mod VastPlan
-pub mod Vastness
 pub mod VastSound

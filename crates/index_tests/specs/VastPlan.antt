@@ -2,6 +2,8 @@
 use Rattle.std.specs.Prelude.{◌+◌, ◌^◌, cond, nat_lt}
 use Rattle.scheme.specs.Plan.{Plan, single}
 use Rattle.basic_schemes.specs.FlatPlan.{flat_plan}
+use Rattle.index_tests.specs.declared.vast.Vast.{Vast}
+use Rattle.index_tests.specs.declared.vast.Vast.TheVariants.{Uncounted, Counted}
 
 -- the table of every run, and 2^40 cells more for event 0
 abbrev pub vast_plan : Plan
@@ -14,3 +16,8 @@ vast_plan = record {
   budget = 1;
   child = flat_plan.child;
 }
+
+-- with the cells more and without
+abbrev pub plan_of_vast : Vast → Plan
+plan_of_vast Uncounted = vast_plan
+plan_of_vast Counted = flat_plan

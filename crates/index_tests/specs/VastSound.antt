@@ -5,8 +5,7 @@ use Rattle.std.proofs.lemmas.Bool.{lt-ltb, le-ltb, cases_lt}
 use Rattle.scheme.specs.Plan.{Sound, Covers, done, goes}
 use Rattle.basic_schemes.specs.FlatPlan.{flat_plan}
 use Rattle.basic_schemes.specs.FlatLayout.{flat_sound}
-use Rattle.index_tests.specs.VastPlan.{vast_plan}
-use Rattle.index_tests.specs.Vastness.{plan_of_vast}
+use Rattle.index_tests.specs.VastPlan.{vast_plan, plan_of_vast}
 use Rattle.index_tests.specs.declared.vast.Vast.{Vast}
 use Rattle.index_tests.specs.declared.vast.Vast.TheVariants.{Uncounted, Counted}
 

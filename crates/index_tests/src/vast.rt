@@ -1,18 +1,20 @@
 //! A scheme with more cells than can be counted: that of every run, and 2^40 cells more for event 0.
 //!
-//! No table has room for it, so an index of it is never built.
+//! No table has room for these, so an index with them is never built. Without them it is the scheme of every run.
 
-ghost use Rattle.index_tests.specs.Vastness.{plan_of_vast};
+ghost use Rattle.index_tests.specs.VastPlan.{plan_of_vast};
 ghost use Rattle.index_tests.specs.VastSound.{plan_of_vast_sound};
 
 use basic_schemes::flat::Flat;
 use scheme::{Answer, EventNo, Piece, Scheme, UNCOUNTED};
 use semigroup::Semigroup;
 
-/// With the 2^40 cells more, or, so that there are tables for some case, without.
+/// Whether the 2^40 cells more are there.
 #[derive(Clone, Copy)]
 pub enum Vast {
+    /// With them.
     Uncounted,
+    /// Without them: a table can have room, and the calls can be made.
     Counted,
 }
 
