@@ -1,7 +1,7 @@
 //! The damaged files, rule by rule.
 
-use crate::sample::{SAMPLE, TURNED, patch, tell, turned_with, with};
-use anyhow::anyhow;
+use crate::sample::{SAMPLE, TURNED, patch, tell, with};
+use anyhow::Context;
 use records::reader::Record;
 use records::record::{EVENT_LEN, Event};
 use session::file::{SessionFile, open};
@@ -14,11 +14,12 @@ pub(crate) fn lengths(rt: &HostRuntime) -> anyhow::Result<()> {
         tell(rt, "cut", &SAMPLE[0..len])?;
     }
     tell(rt, "without its last byte", &SAMPLE[0..83])?;
-    with(rt, "length field one more", &[(16, 85)])?;
-    with(rt, "length field one less", &[(16, 83)])?;
-    with(rt, "length field 2^24 more", &[(19, 1)])?;
+    with(rt, SAMPLE, "length field one more", &[(16, 85)])?;
+    with(rt, SAMPLE, "length field one less", &[(16, 83)])?;
+    with(rt, SAMPLE, "length field 2^24 more", &[(19, 1)])?;
     with(
         rt,
+        SAMPLE,
         "wrong length before a wrong edition",
         &[(16, 85), (0, 2)],
     )
@@ -26,53 +27,81 @@ pub(crate) fn lengths(rt: &HostRuntime) -> anyhow::Result<()> {
 
 /// Rule 2.
 pub(crate) fn editions(rt: &HostRuntime) -> anyhow::Result<()> {
-    with(rt, "edition 0", &[(0, 0)])?;
-    with(rt, "edition 2", &[(0, 2)])?;
-    with(rt, "edition 257", &[(1, 1)])?;
-    with(rt, "edition 2 before no codes", &[(0, 2), (2, 0)])
+    with(rt, SAMPLE, "edition 0", &[(0, 0)])?;
+    with(rt, SAMPLE, "edition 2", &[(0, 2)])?;
+    with(rt, SAMPLE, "edition 257", &[(1, 1)])?;
+    with(rt, SAMPLE, "edition 2 before no codes", &[(0, 2), (2, 0)])
 }
 
 /// Rule 3.
 pub(crate) fn counts(rt: &HostRuntime) -> anyhow::Result<()> {
-    with(rt, "no codes", &[(2, 0)])?;
-    with(rt, "64 codes, which do not fit", &[(2, 64)])?;
-    with(rt, "65 codes", &[(2, 65)])?;
-    with(rt, "258 codes", &[(3, 1)])?;
-    with(rt, "no events", &[(4, 0)])?;
-    with(rt, "65,536 events, which do not fit", &[(4, 0), (6, 1)])?;
-    with(rt, "65,537 events", &[(4, 1), (6, 1)])?;
-    with(rt, "no codes and no events", &[(2, 0), (4, 0)])?;
-    with(rt, "no events before misplaced codes", &[(4, 0), (8, 19)])
+    with(rt, SAMPLE, "no codes", &[(2, 0)])?;
+    with(rt, SAMPLE, "64 codes, which do not fit", &[(2, 64)])?;
+    with(rt, SAMPLE, "65 codes", &[(2, 65)])?;
+    with(rt, SAMPLE, "258 codes", &[(3, 1)])?;
+    with(rt, SAMPLE, "no events", &[(4, 0)])?;
+    with(
+        rt,
+        SAMPLE,
+        "65,536 events, which do not fit",
+        &[(4, 0), (6, 1)],
+    )?;
+    with(rt, SAMPLE, "65,537 events", &[(4, 1), (6, 1)])?;
+    with(rt, SAMPLE, "no codes and no events", &[(2, 0), (4, 0)])?;
+    with(
+        rt,
+        SAMPLE,
+        "no events before misplaced codes",
+        &[(4, 0), (8, 19)],
+    )
 }
 
 /// Rule 4.
 pub(crate) fn sections(rt: &HostRuntime) -> anyhow::Result<()> {
-    with(rt, "codes at byte 19", &[(8, 19)])?;
-    with(rt, "codes over the events by a byte", &[(8, 21)])?;
-    with(rt, "codes on the last event", &[(8, 68)])?;
-    with(rt, "codes past the end by a byte", &[(8, 69)])?;
+    with(rt, SAMPLE, "codes at byte 19", &[(8, 19)])?;
+    with(rt, SAMPLE, "codes over the events by a byte", &[(8, 21)])?;
+    with(rt, SAMPLE, "codes on the last event", &[(8, 68)])?;
+    with(rt, SAMPLE, "codes past the end by a byte", &[(8, 69)])?;
     with(
         rt,
+        SAMPLE,
         "codes near 2^32",
         &[(8, 248), (9, 255), (10, 255), (11, 255)],
     )?;
-    with(rt, "events over the codes by a byte", &[(12, 35)])?;
-    with(rt, "events past the end by a byte", &[(12, 37)])?;
+    with(rt, SAMPLE, "events over the codes by a byte", &[(12, 35)])?;
+    with(rt, SAMPLE, "events past the end by a byte", &[(12, 37)])?;
     with(
         rt,
+        SAMPLE,
         "events near 2^32",
         &[(12, 240), (13, 255), (14, 255), (15, 255)],
     )?;
-    with(rt, "misplaced codes before a bad code", &[(8, 19), (23, 3)])
+    with(
+        rt,
+        SAMPLE,
+        "misplaced codes before a bad code",
+        &[(8, 19), (23, 3)],
+    )
 }
 
 /// Sections in the other order, with gaps.
 pub(crate) fn orders(rt: &HostRuntime) -> anyhow::Result<()> {
     tell(rt, "the turned sample", &TURNED)?;
-    turned_with(rt, "turned, events moved up to the codes", &[(12, 24)])?;
-    turned_with(rt, "turned, events over the codes by a byte", &[(12, 25)])?;
-    turned_with(
+    with(
         rt,
+        TURNED,
+        "turned, events moved up to the codes",
+        &[(12, 24)],
+    )?;
+    with(
+        rt,
+        TURNED,
+        "turned, events over the codes by a byte",
+        &[(12, 25)],
+    )?;
+    with(
+        rt,
+        TURNED,
         "turned, codes right after the events",
         &[
             (8, 70),
@@ -93,10 +122,16 @@ pub(crate) fn orders(rt: &HostRuntime) -> anyhow::Result<()> {
             (84, 0),
         ],
     )?;
-    turned_with(rt, "turned, codes over the events by a byte", &[(8, 69)])?;
-    turned_with(rt, "turned, events at byte 19", &[(12, 19)])?;
-    turned_with(
+    with(
         rt,
+        TURNED,
+        "turned, codes over the events by a byte",
+        &[(8, 69)],
+    )?;
+    with(rt, TURNED, "turned, events at byte 19", &[(12, 19)])?;
+    with(
+        rt,
+        TURNED,
         "turned, codes to the end",
         &[
             (8, 74),
@@ -113,57 +148,93 @@ pub(crate) fn orders(rt: &HostRuntime) -> anyhow::Result<()> {
             (81, 0),
         ],
     )?;
-    turned_with(rt, "turned, codes past the end by a byte", &[(8, 75)])
+    with(
+        rt,
+        TURNED,
+        "turned, codes past the end by a byte",
+        &[(8, 75)],
+    )
 }
 
 /// Rule 5.
 pub(crate) fn codes(rt: &HostRuntime) -> anyhow::Result<()> {
-    with(rt, "effect 3 in the first code", &[(23, 3)])?;
-    with(rt, "effect 3 in the last code", &[(31, 3)])?;
-    with(rt, "effect 255", &[(23, 255)])?;
-    with(rt, "factor 65,520", &[(24, 240), (25, 255)])?;
-    with(rt, "factor 65,521", &[(24, 241), (25, 255)])?;
-    with(rt, "first reserved byte", &[(26, 1)])?;
-    with(rt, "last reserved byte of the last code", &[(35, 1)])?;
-    with(rt, "two bad codes", &[(23, 3), (31, 3)])?;
-    with(rt, "bad code before a bad event", &[(31, 3), (40, 2)])
+    with(rt, SAMPLE, "effect 3 in the first code", &[(23, 3)])?;
+    with(rt, SAMPLE, "effect 3 in the last code", &[(31, 3)])?;
+    with(rt, SAMPLE, "effect 255", &[(23, 255)])?;
+    with(rt, SAMPLE, "factor 65,520", &[(24, 240), (25, 255)])?;
+    with(rt, SAMPLE, "factor 65,521", &[(24, 241), (25, 255)])?;
+    with(rt, SAMPLE, "first reserved byte", &[(26, 1)])?;
+    with(
+        rt,
+        SAMPLE,
+        "last reserved byte of the last code",
+        &[(35, 1)],
+    )?;
+    with(rt, SAMPLE, "two bad codes", &[(23, 3), (31, 3)])?;
+    with(
+        rt,
+        SAMPLE,
+        "bad code before a bad event",
+        &[(31, 3), (40, 2)],
+    )
 }
 
 /// Rule 6: times of day, codes and flags.
 pub(crate) fn events(rt: &HostRuntime) -> anyhow::Result<()> {
     with(
         rt,
+        SAMPLE,
         "last millisecond of the day",
         &[(68, 255), (69, 91), (70, 38), (71, 5)],
     )?;
-    with(rt, "midnight", &[(68, 0), (69, 92), (70, 38), (71, 5)])?;
-    with(rt, "last code", &[(40, 1)])?;
-    with(rt, "code past the last", &[(40, 2)])?;
-    with(rt, "code 255 in the last event", &[(72, 255)])?;
-    with(rt, "flag 2", &[(41, 2)])?;
-    with(rt, "flag 255 in the last event", &[(73, 255)])?;
-    with(rt, "two bad events", &[(40, 2), (72, 2)])?;
-    with(rt, "bad event behind a late one", &[(52, 9), (73, 2)])
+    with(
+        rt,
+        SAMPLE,
+        "midnight",
+        &[(68, 0), (69, 92), (70, 38), (71, 5)],
+    )?;
+    with(rt, SAMPLE, "last code", &[(40, 1)])?;
+    with(rt, SAMPLE, "code past the last", &[(40, 2)])?;
+    with(rt, SAMPLE, "code 255 in the last event", &[(72, 255)])?;
+    with(rt, SAMPLE, "flag 2", &[(41, 2)])?;
+    with(rt, SAMPLE, "flag 255 in the last event", &[(73, 255)])?;
+    with(rt, SAMPLE, "two bad events", &[(40, 2), (72, 2)])?;
+    with(
+        rt,
+        SAMPLE,
+        "bad event behind a late one",
+        &[(52, 9), (73, 2)],
+    )
 }
 
 /// Rule 6: prices.
 pub(crate) fn prices(rt: &HostRuntime) -> anyhow::Result<()> {
-    with(rt, "no flag, price 1", &[(60, 1)])?;
-    with(rt, "no flag, price -2^31", &[(63, 128)])?;
-    with(rt, "no flag, quantity 1", &[(64, 1)])?;
-    with(rt, "no flag, quantity 2^24", &[(67, 1)])?;
-    with(rt, "flag, price 0 and quantity 0", &[(57, 1)])?;
-    with(rt, "flag taken from a priced event", &[(41, 0)])
+    with(rt, SAMPLE, "no flag, price 1", &[(60, 1)])?;
+    with(rt, SAMPLE, "no flag, price -2^31", &[(63, 128)])?;
+    with(rt, SAMPLE, "no flag, quantity 1", &[(64, 1)])?;
+    with(rt, SAMPLE, "no flag, quantity 2^24", &[(67, 1)])?;
+    with(rt, SAMPLE, "flag, price 0 and quantity 0", &[(57, 1)])?;
+    with(rt, SAMPLE, "flag taken from a priced event", &[(41, 0)])
 }
 
 /// Rule 7.
 pub(crate) fn times(rt: &HostRuntime) -> anyhow::Result<()> {
-    with(rt, "second event one earlier", &[(52, 9)])?;
-    with(rt, "last event one earlier than the one before", &[(68, 9)])?;
-    with(rt, "last event at the time of the one before", &[(68, 10)])?;
-    with(rt, "two late events", &[(52, 9), (68, 8)])?;
-    with(rt, "first event at time 0", &[(36, 0)])?;
-    with(rt, "first event later than the others", &[(36, 30)])
+    with(rt, SAMPLE, "second event one earlier", &[(52, 9)])?;
+    with(
+        rt,
+        SAMPLE,
+        "last event one earlier than the one before",
+        &[(68, 9)],
+    )?;
+    with(
+        rt,
+        SAMPLE,
+        "last event at the time of the one before",
+        &[(68, 10)],
+    )?;
+    with(rt, SAMPLE, "two late events", &[(52, 9), (68, 8)])?;
+    with(rt, SAMPLE, "first event at time 0", &[(36, 0)])?;
+    with(rt, SAMPLE, "first event later than the others", &[(36, 30)])
 }
 
 /// The largest file: 64 codes and 65,536 events, all of them zeros.
@@ -171,12 +242,8 @@ fn full_day(heap: Global) -> Result<Vec<u8>, AllocError> {
     let header: [u8; 20] = [
         1, 0, 64, 0, 0, 0, 1, 0, 20, 0, 0, 0, 20, 2, 0, 0, 20, 2, 16, 0,
     ];
-    let mut file = vec![in heap; 0; 532 + 16 * 65_536]?;
-    for (i, byte) in header.iter().enumerate() {
-        if i < file.len() {
-            file[i] = *byte;
-        }
-    }
+    let mut file = header.to_vec(heap)?;
+    file.resize(532 + 16 * 65_536, 0)?;
     Ok(file)
 }
 
@@ -224,19 +291,14 @@ fn tell_code(rt: &HostRuntime, file: &SessionFile, place: usize) -> anyhow::Resu
 
 /// What the readers hand out, past the end too.
 pub(crate) fn readers(rt: &HostRuntime) -> anyhow::Result<()> {
-    let file = match open(&TURNED) {
-        Ok(file) => file,
-        Err(_) => return Err(anyhow!("the turned sample is not accepted")),
-    };
-    let mut reader = file.events();
-    tell_next(rt, reader.next())?;
-    tell_next(rt, reader.next())?;
-    tell_next(rt, reader.next())?;
-    tell_next(rt, reader.next())?;
-    tell_next(rt, reader.next())?;
-    tell_code(rt, &file, 0)?;
-    tell_code(rt, &file, 1)?;
-    tell_code(rt, &file, 2)?;
+    let file = open(&TURNED).context("the turned sample is not accepted")?;
+    let mut events = file.events();
+    for _ in 0..5 {
+        tell_next(rt, events.next())?;
+    }
+    for place in 0..3 {
+        tell_code(rt, &file, place)?;
+    }
     let past = file.event_at(3).is_none();
     println!(rt; "no event 3: {past}")?;
     Ok(())

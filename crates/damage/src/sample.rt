@@ -36,27 +36,20 @@ pub(crate) fn tell(rt: &HostRuntime, what: &str, bytes: &[u8]) -> anyhow::Result
 
 /// Writes each byte to its place.
 pub(crate) fn patch(bytes: &mut [u8], edits: &[(usize, u8)]) {
-    for (at, byte) in edits {
-        if *at < bytes.len() {
-            bytes[*at] = *byte;
+    for &(at, byte) in edits {
+        if let Some(place) = bytes.get_mut(at) {
+            *place = byte;
         }
     }
 }
 
-/// Prints what opening the sample gives once these bytes are changed.
-pub(crate) fn with(rt: &HostRuntime, what: &str, edits: &[(usize, u8)]) -> anyhow::Result<()> {
-    let mut file = SAMPLE;
-    patch(&mut file, edits);
-    tell(rt, what, &file)
-}
-
-/// The same of the turned sample.
-pub(crate) fn turned_with(
+/// Prints what opening a sample gives once these bytes of it are changed.
+pub(crate) fn with<const LEN: usize>(
     rt: &HostRuntime,
+    mut sample: [u8; LEN],
     what: &str,
     edits: &[(usize, u8)],
 ) -> anyhow::Result<()> {
-    let mut file = TURNED;
-    patch(&mut file, edits);
-    tell(rt, what, &file)
+    patch(&mut sample, edits);
+    tell(rt, what, &sample)
 }

@@ -3,7 +3,7 @@
 ghost use Rattle.std.specs.Prelude.{Some};
 ghost use Rattle.listing.specs.Lines.{header_text, event_text};
 
-use crate::part::{Participant, Section, TimeOfDay, Trade, effect_word};
+use crate::part::{EffectWord, Participant, Section, TimeOfDay, Trade};
 use records::record::{Effect, Event, Header};
 use std::fmt;
 
@@ -54,11 +54,14 @@ impl fmt::Display for EventLine {
     ghost output = { λ l. Some (event_text l) };
 
     fn fmt<W: fmt::Write>(&self, f: &mut fmt::Formatter<W>) -> fmt::Result {
-        let number = self.number;
-        let event = self.event;
+        let EventLine {
+            number,
+            event,
+            effect,
+        } = *self;
         let time = TimeOfDay { millis: event.time };
         let code = event.code;
-        let effect = effect_word(self.effect);
+        let effect = EffectWord { effect };
         let participant = Participant {
             number: event.participant,
         };

@@ -34,24 +34,31 @@ impl fmt::Display for TimeOfDay {
     ghost output = { λ t. Some (time_text t.millis) };
 
     fn fmt<W: fmt::Write>(&self, f: &mut fmt::Formatter<W>) -> fmt::Result {
-        let t = self.millis;
-        let (h1, h0) = (t / 36_000_000, t / 3_600_000 % 10);
-        let (m1, m0) = (t / 600_000 % 6, t / 60_000 % 10);
-        let (s1, s0) = (t / 10_000 % 6, t / 1_000 % 10);
-        let (d2, d1, d0) = (t / 100 % 10, t / 10 % 10, t % 10);
-        write!(f, "{h1}{h0}:{m1}{m0}:{s1}{s0}.{d2}{d1}{d0}")
+        let hours = self.millis / 3_600_000;
+        let minutes = self.millis / 60_000 % 60;
+        let seconds = self.millis / 1_000 % 60;
+        let millis = self.millis % 1_000;
+        write!(f, "{hours:02}:{minutes:02}:{seconds:02}.{millis:03}")
     }
 }
 
-/// The word for an effect.
-pub fn effect_word(effect: Option<Effect>) -> &'static str
-    ensures value { result.now ≡ effect_text effect }
-{
-    match effect {
-        Some(Effect::Nothing) => "none",
-        Some(Effect::Halt) => "halt",
-        Some(Effect::Resumption) => "resumption",
-        None => "unknown",
+/// What a code does to trading, in a word.
+#[derive(Clone, Copy)]
+pub struct EffectWord {
+    pub effect: Option<Effect>,
+}
+
+/// As `halt`.
+impl fmt::Display for EffectWord {
+    ghost output = { λ w. Some (effect_text w.effect) };
+
+    fn fmt<W: fmt::Write>(&self, f: &mut fmt::Formatter<W>) -> fmt::Result {
+        f.write_str(match self.effect {
+            Some(Effect::Nothing) => "none",
+            Some(Effect::Halt) => "halt",
+            Some(Effect::Resumption) => "resumption",
+            None => "unknown",
+        })
     }
 }
 
@@ -86,16 +93,9 @@ impl fmt::Display for Trade {
     ghost output = { λ t. Some (trade_text t.event) };
 
     fn fmt<W: fmt::Write>(&self, f: &mut fmt::Formatter<W>) -> fmt::Result {
-        let Event {
-            price_flag,
-            price,
-            quantity,
-            ..
-        } = self.event;
-        if price_flag == 1 {
-            write!(f, "price {price} quantity {quantity}")
-        } else {
-            write!(f, "no price")
+        match self.event.trade() {
+            Some(trade) => write!(f, "price {} quantity {}", trade.price, trade.quantity),
+            None => write!(f, "no price"),
         }
     }
 }

@@ -12,6 +12,7 @@ pub struct Record<'a, const LEN: usize> {
 }
 
 /// The records of `LEN` bytes that stand one after the other from `start` on: those from `at` on are still to come.
+/// Numbers and no range of places, since a reader is copied and a `Range` is not.
 #[derive(Clone, Copy)]
 pub struct Records<'a, const LEN: usize> {
     file: &'a [u8],

@@ -1,14 +1,14 @@
 -- The computed refusal is that of the first fault.
-use Rattle.std.proofs.Common.{◌≡◌, ℕ, zero, suc, ◌<◌, ◌≤◌, Bool, true, false, cond, eqb, leb, List, length, ℤ, pos, negsuc, Some, None, Ok, Err, Decides, Option, Result, refl, ap, ◌∙◌, inl, inr, arith, MatchOption, MatchResult}
+use Rattle.std.proofs.Common.{◌≡◌, ℕ, zero, suc, ◌<◌, ◌≤◌, Bool, true, false, cond, leb, List, length, Some, None, Ok, Err, Decides, Option, Result, refl, ap, ◌∙◌, inl, inr, arith, MatchOption, MatchResult}
 use Rattle.std.specs.Option.{option_or}
-use Rattle.std.proofs.lemmas.Bool.Decides.{Decides-eqb, Decides-ltb, Decides-and, Decides-or, Decides-like}
+use Rattle.std.proofs.lemmas.Bool.Decides.{Decides-eqb, Decides-int_eq, Decides-ltb, Decides-and, Decides-or, Decides-like}
 use Rattle.std.proofs.lemmas.Bool.{leb-true, le-leb, false≢true}
 use Rattle.session.specs.declared.fault.FileFault.{FileFault}
 use Rattle.session.specs.declared.fault.FileFault.TheVariants.{Length, Edition, Count, Sections, Code, Event, Time}
 use Rattle.records.specs.Fields.{header_of}
 use Rattle.session.specs.Rules.{Whole, FewCodes, FewEvents, SectionsLie, Headed, WellFormed, GoodCode, GoodEvent, InOrder}
 use Rattle.session.specs.First.{Least, First}
-use Rattle.session.specs.Computed.{whole?, few_codes?, few_events?, sections?, code?, event?, order?, nought?, first_not, unless, refused_at_first, in_times, in_events, first_refusal}
+use Rattle.session.specs.Computed.{whole?, few_codes?, few_events?, sections?, headed?, code?, event?, order?, first_not, unless, refused_at_first, in_times, in_events, first_refusal}
 use Rattle.session.specs.Opened.{refusal_in}
 use Rattle.session.specs.Faults.{Refusal, refusal_of}
 use Rattle.session.proofs.Once.{no_fault, one_fault}
@@ -34,6 +34,13 @@ sections_decided b =
     (λ s. (s.codes_begin, (s.codes_fit, (s.events_begin, (s.events_fit, s.apart)))))
     (Decides-and _ _ (decides_leb 20 _) (Decides-and _ _ (decides_leb _ _) (Decides-and _ _ (decides_leb 20 _) (Decides-and _ _ (decides_leb _ _) (Decides-or _ _ (decides_leb _ _) (decides_leb _ _))))))
 
+pub headed_decided : (b : List ℕ) → Decides (headed? b) (Headed b)
+headed_decided b =
+    Decides-like (headed? b)
+    (λ p. record { whole = p.0; edition = p.1.0; few_codes = p.1.1.0; few_events = p.1.1.1.0; sections = p.1.1.1.1 })
+    (λ h. (h.whole, (h.edition, (h.few_codes, (h.few_events, h.sections)))))
+    (Decides-and _ _ (whole_decided b) (Decides-and _ _ (Decides-eqb _ 1) (Decides-and _ _ (few_codes_decided b) (Decides-and _ _ (few_events_decided b) (sections_decided b)))))
+
 itself : (t : Bool) → Decides t (t ≡ true)
 itself t = (λ e. e, λ e. e)
 
@@ -42,16 +49,12 @@ code_decided b k =
     Decides-like (code? b k) (λ p. record { effect = p.0; factor = p.1.0; reserved = p.1.1 }) (λ l. (l.effect, (l.factor, l.reserved)))
     (Decides-and _ _ (itself _) (Decides-and _ _ (decides_leb _ 65520) (Decides-eqb _ 0)))
 
-nought_decided : (z : ℤ) → Decides (nought? z) (z ≡ pos 0)
-nought_decided (pos n) = Decides-like (eqb n 0) (λ e. ap pos e) (λ e. cc) (Decides-eqb n 0)
-nought_decided (negsuc n) = (λ e. absurd (false≢true e), λ e. absurd (let z : ◌≡◌ {A = ℕ} 0 1 = cc in omega arith))
-
 event_decided : (b : List ℕ) (k : ℕ) → Decides (event? b k) (GoodEvent b k)
 event_decided b k =
     Decides-like (event? b k) (λ p. record { time = p.0; code = p.1.0; price = elim p.1.1 [ inl f ↦ inl f | inr q ↦ inr (q.0, q.1.0, q.1.1) ] })
     (λ l. (l.time, (l.code, elim l.price [ inl f ↦ inl f | inr q ↦ inr (q.0, (q.1, q.2)) ])))
     (Decides-and _ _ (decides_leb _ 86399999) (Decides-and _ _ (Decides-ltb _ _)
-    (Decides-or _ _ (Decides-eqb _ 1) (Decides-and _ _ (Decides-eqb _ 0) (Decides-and _ _ (nought_decided _) (Decides-eqb _ 0))))))
+    (Decides-or _ _ (Decides-eqb _ 1) (Decides-and _ _ (Decides-eqb _ 0) (Decides-and _ _ (Decides-int_eq _ _) (Decides-eqb _ 0))))))
 
 order_decided : (b : List ℕ) (k : ℕ) → Decides (order? b k) (InOrder b k)
 order_decided b zero = Decides-like (order? b zero) (λ h z. absurd (omega arith)) (λ _. omega arith) (decides_leb _ _)

@@ -1,11 +1,9 @@
--- Loops over the codes and the events of a file: one more place that is good, and the first that is not.
-use Rattle.std.proofs.Common.{◌≡◌, ℕ, zero, suc, ◌+◌, ◌-◌, ◌<◌, ◌≤◌, Bool, List, Decides, refl, arith, below_more}
-use Rattle.records.specs.declared.record.Code.{Code}
+-- The loop over the times of a file: one more place that is good, and the first that is not.
+use Rattle.std.proofs.Common.{◌≡◌, ℕ, zero, suc, ◌+◌, ◌-◌, ◌<◌, ◌≤◌, List, refl, arith, below_more}
 use Rattle.records.specs.declared.record.Event.{Event}
-use Rattle.records.specs.Fields.{header_of, code_of, event_of}
-use Rattle.records.specs.Lawful.{LawfulCode, LawfulEvent}
+use Rattle.records.specs.Fields.{header_of, event_of}
 use Rattle.records.specs.Parts.{part}
-use Rattle.session.specs.Rules.{code_at, event_at, GoodCode, GoodEvent, InOrder}
+use Rattle.session.specs.Rules.{event_at, InOrder}
 use Rattle.session.specs.First.{Least}
 
 pub one_more : (P : ℕ → Type 0) (at next : ℕ) → next ≡ at + 1 → ((k : ℕ) → k < at → P k) → P at → (k : ℕ) → k < next → P k
@@ -14,18 +12,9 @@ one_more P at next e below here = rw e (below_more P at below here)
 pub first_bad : (P : ℕ → Type 0) (n at place : ℕ) → place ≡ at → at < n → ((k : ℕ) → k < at → P k) → (P at → ⊥) → Least P n place
 first_bad P n at place e h below here = rw e (h, below, here)
 
--- what a decoded record is, and what its test says, in the words of the file
-pub the_code : (file bytes : List ℕ) (at : ℕ) (code : Code) → bytes ≡ part 8 file (header_of file).codes_at at → code ≡ code_of bytes → code ≡ code_at file at
-the_code file bytes at code p q = rw (q, p) refl
-
+-- what a decoded event is, in the words of the file
 pub the_event : (file bytes : List ℕ) (at : ℕ) (event : Event) → bytes ≡ part 16 file (header_of file).events_at at → event ≡ event_of bytes → event ≡ event_at file at
 the_event file bytes at event p q = rw (q, p) refl
-
-pub code_test : (file : List ℕ) (at : ℕ) (code : Code) (r : Bool) → code ≡ code_at file at → Decides r (LawfulCode code) → Decides r (GoodCode file at)
-code_test file at code r p d = rw p at d
-
-pub event_test : (file : List ℕ) (n at : ℕ) (event : Event) (r : Bool) → n ≡ (header_of file).codes → event ≡ event_at file at → Decides r (LawfulEvent n event) → Decides r (GoodEvent file at)
-event_test file n at event r q p d = rw (p, q) at d
 
 -- the time of the event before, or 0 before the first
 abbrev pub Latest : List ℕ → ℕ → ℕ → Type 0

@@ -1,5 +1,6 @@
 -- The refusal of a file, computed check by check.
-use Rattle.std.specs.Prelude.{ℕ, zero, suc, ◌-◌, Bool, false, cond, ◌&&◌, ◌||◌, List, length, ℤ, pos, negsuc, is_some, Some, None, Option, ◌==◌, nat_le, nat_lt}
+use Rattle.std.specs.Prelude.{ℕ, zero, suc, ◌-◌, Bool, cond, ◌&&◌, ◌||◌, List, length, pos, is_some, Some, None, Option, ◌==◌, nat_le, nat_lt}
+use Rattle.std.specs.Ordering.{int_eq}
 use Rattle.std.specs.Option.{option_or}
 use Rattle.records.specs.Fields.{header_of}
 use Rattle.session.specs.Faults.{Refusal}
@@ -20,18 +21,18 @@ sections? b =
     nat_le 20 (header_of b).codes_at && (nat_le (end_of_codes b) (length b) && (nat_le 20 (header_of b).events_at && (nat_le (end_of_events b) (length b)
     && (nat_le (end_of_codes b) (header_of b).events_at || nat_le (end_of_events b) (header_of b).codes_at))))
 
+-- rules 1 to 4 together
+abbrev pub headed? : List ℕ → Bool
+headed? b = whole? b && ((header_of b).edition == 1 && (few_codes? b && (few_events? b && sections? b)))
+
 -- the tests of rules 5, 6 and 7 at one place
 abbrev pub code? : List ℕ → ℕ → Bool
 code? b k = is_some (code_at b k).effect && (nat_le (code_at b k).factor 65520 && (code_at b k).reserved == 0)
 
-abbrev pub nought? : ℤ → Bool
-nought? (pos n) = n == 0
-nought? (negsuc n) = false
-
 abbrev pub event? : List ℕ → ℕ → Bool
 event? b k =
     nat_le (event_at b k).time 86399999 && (nat_lt (event_at b k).code (header_of b).codes
-    && ((event_at b k).price_flag == 1 || ((event_at b k).price_flag == 0 && (nought? (event_at b k).price && (event_at b k).quantity == 0))))
+    && ((event_at b k).price_flag == 1 || ((event_at b k).price_flag == 0 && (int_eq (event_at b k).price (pos 0) && (event_at b k).quantity == 0))))
 
 -- (the first event follows none, and is held against itself)
 abbrev pub order? : List ℕ → ℕ → Bool

@@ -3,10 +3,11 @@
 ghost use Rattle.std.specs.Prelude.{◌≡◌, Some};
 ghost use Rattle.session.specs.Faults.{fault_number, fault_place, fault_cause, fault_text, place_unit};
 
+use std::error::Error;
 use std::fmt;
 
 /// The rules that a file can break, in the order in which they are checked.
-#[derive(Clone, Copy)]
+#[derive(Clone, Copy, Debug, PartialEq, Eq)]
 pub enum FileFault {
     /// The file has under 20 bytes, or its length field is not its length.
     Length { len: usize },
@@ -94,3 +95,5 @@ impl fmt::Display for FileFault {
         write!(f, "fault {number} ({cause}) at {unit} {place}")
     }
 }
+
+impl Error for FileFault {}

@@ -1,54 +1,33 @@
 //! A session file that is accepted, and its records.
 
-ghost use Rattle.std.specs.Prelude.{◌≡◌, is_ok, IfOk, Decides, MatchResult};
+ghost use Rattle.std.specs.Prelude.{◌≡◌};
+ghost use Rattle.std.specs.Coded.{Coded-set};
 ghost use Rattle.records.specs.Fields.{header_of};
 ghost use Rattle.records.specs.Reading.{Over, HandsOut};
 ghost use Rattle.session.specs.Rules.{WellFormed};
-ghost use Rattle.session.specs.First.{First};
-ghost use Rattle.session.specs.Computed.{first_refusal};
-ghost use Rattle.session.specs.Opened.{refusal_in, FirstRefused, Accepted, code_from, event_from};
 
-use crate::checks::{
-    check_codes, check_counts, check_edition, check_events, check_length, check_sections,
-    check_times,
-};
-use crate::fault::FileFault;
+use crate::sections::{codes_of, events_of};
 use records::reader::Records;
 use records::record::{CODE_LEN, Code, EVENT_LEN, Event, Header};
+
+mod opening;
+
+pub use opening::open;
 
 /// An accepted file: its bytes, which stay where they are, and its header.
 #[derive(Clone, Copy)]
 pub struct SessionFile<'a> {
     bytes: &'a [u8],
     header: Header,
+    ghost read: { header ≡ header_of bytes.now } by { Coded-set header-code header (header_of bytes.now) },
+    ghost well_formed: { ∥ WellFormed bytes.now ∥₁ },
 }
 
-/// Runs the checks in their order.
-fn checked(bytes: &[u8]) -> Result<Header, FileFault>
-    ensures first { MatchResult result (λ h. WellFormed bytes.now × (h ≡ header_of bytes.now)) (First bytes.now) }
-{
-    let header = check_length(bytes)?;
-    check_edition(bytes, &header)?;
-    check_counts(bytes, &header)?;
-    check_sections(bytes, &header)?;
-    check_codes(bytes, &header)?;
-    check_events(bytes, &header)?;
-    check_times(bytes, &header)?;
-    Ok(header)
-}
-
-/// Opens a file: accepted if it is well formed, else refused by its first fault.
-pub fn open(bytes: &[u8]) -> Result<SessionFile<'_>, FileFault>
-    ensures accepted { Decides (is_ok result) (WellFormed bytes.now) }
-    ensures refused { FirstRefused bytes.now result }
-    ensures numbered { refusal_in result ≡ first_refusal bytes.now }
-    ensures file { IfOk result (Accepted bytes.now) }
-{
-    let header = checked(bytes)?;
-    Ok(SessionFile { bytes, header })
-}
-
+// Codes and events have a call each: the bodies are a line, and a call for both would be told the length of a record, where the
+// header has its place and how it is decoded.
 impl<'a> SessionFile<'a> {
+    ghost use Rattle.session.specs.Opened.{code_from, event_from};
+
     /// What the header says.
     pub fn header(&self) -> Header
         ensures value { result ≡ self.now.header }
@@ -61,9 +40,7 @@ impl<'a> SessionFile<'a> {
         ensures reader { Over 8 self.now.bytes.now self.now.header.codes_at self.now.header.codes result }
         ensures order { HandsOut 8 result }
     {
-        let header = self.header();
-        let start = header.codes_at as usize;
-        Records::over(self.bytes, start, header.codes as usize)
+        codes_of(self.bytes, &self.header)
     }
 
     /// The events, in their order, each as its part of the file.
@@ -71,28 +48,22 @@ impl<'a> SessionFile<'a> {
         ensures reader { Over 16 self.now.bytes.now self.now.header.events_at self.now.header.events result }
         ensures order { HandsOut 16 result }
     {
-        let header = self.header();
-        let start = header.events_at as usize;
-        Records::over(self.bytes, start, header.events as usize)
+        events_of(self.bytes, &self.header)
     }
 
     /// The code at a place, or none past the last.
     pub fn code_at(&self, place: usize) -> Option<Code>
         ensures value { result ≡ code_from self.now.bytes.now self.now.header place }
     {
-        match self.codes().get(place) {
-            Some(record) => Some(Code::decode(record.bytes)),
-            None => None,
-        }
+        let record = self.codes().get(place);
+        record.map(|record| Code::decode(record.bytes))
     }
 
     /// The event at a place, or none past the last.
     pub fn event_at(&self, place: usize) -> Option<Event>
         ensures value { result ≡ event_from self.now.bytes.now self.now.header place }
     {
-        match self.events().get(place) {
-            Some(record) => Some(Event::decode(record.bytes)),
-            None => None,
-        }
+        let record = self.events().get(place);
+        record.map(|record| Event::decode(record.bytes))
     }
 }

@@ -2,6 +2,8 @@
 //! first rule that they break, with its place.
 #![tactic(auto)]
 
-mod checks;
 pub mod fault;
 pub mod file;
+mod headed;
+mod sections;
+mod whole;
