@@ -1,5 +1,6 @@
 -- The events of a file, each with its number and the record of its code.
-use Rattle.std.specs.Prelude.{ℕ, zero, suc, ◌%◌, cond, List, [], ◌∷◌, ◌++◌}
+use Rattle.std.specs.Prelude.{ℕ, ◌%◌, cond, List, [], map}
+use Rattle.std.specs.List.{range_with_len}
 use Rattle.std.specs.Option.{unwrap_or}
 use Rattle.records.specs.declared.record.Header.{Header}
 use Rattle.records.specs.declared.record.Event.{Event}
@@ -16,11 +17,6 @@ numbered_entry b h k e = record { number = k % 65536; event = e; code = unwrap_o
 abbrev pub entry_at : List ℕ → Header → ℕ → Entry
 entry_at b h k = numbered_entry b h k (event_of (part 16 b h.events_at k))
 
--- the entries of the first n events, in their order
-abbrev pub first_entries : List ℕ → Header → ℕ → List Entry
-first_entries b h zero = []
-first_entries b h (suc k) = first_entries b h k ++ (entry_at b h k ∷ [])
-
--- the entries of all events; a section that does not lie within the file has none
+-- the entries of all events, in their order; a section that does not lie within the file has none
 abbrev pub day_of : List ℕ → Header → List Entry
-day_of b h = first_entries b h (cond (fits 16 b h.events_at h.events) h.events 0)
+day_of b h = map (entry_at b h) (range_with_len 0 (cond (fits 16 b h.events_at h.events) h.events 0))

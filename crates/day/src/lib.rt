@@ -3,25 +3,26 @@
 #![tactic(auto)]
 
 ghost use Rattle.std.specs.Prelude.{◌≡◌, IfOk};
+ghost use Rattle.records.specs.Fields.{event_of};
 ghost use Rattle.day.specs.Day.{numbered_entry, day_of};
 
 use kinds::kind::Entry;
-use records::record::{Code, Event};
+use records::reader::Record;
+use records::record::{CODE_LEN, Code, EVENT_LEN, Event};
 use session::file::SessionFile;
 use std::alloc::{AllocError, Global};
 
-/// An event of a file, with its number and the record of its code. A code that the file lacks is read as all zeros; an
+/// The event of a record, with its number and the record of its code. A code that the file lacks is read as all zeros; an
 /// accepted file lacks none.
-fn entry_of(file: &SessionFile, place: usize, event: Event) -> Entry
-    ensures value { result ≡ numbered_entry file.now.bytes.now file.now.header place event }
+fn entry_of(file: &SessionFile, record: &Record<'_, EVENT_LEN>) -> Entry
+    ensures value { result ≡ numbered_entry file.now.bytes.now file.now.header record.now.place (event_of record.now.bytes.now) }
 {
-    let number = (place % 65_536) as u16;
-    let code = file.code_at(event.code as usize);
-    let code = code.unwrap_or(Code::decode(&[0; 8]));
+    let event = Event::decode(record.bytes);
+    let code = file.code_at(usize::from(event.code));
     Entry {
-        number,
+        number: (record.place % 65_536) as u16,
         event,
-        code,
+        code: code.unwrap_or(Code::decode(&[0; CODE_LEN])),
     }
 }
 
@@ -29,10 +30,7 @@ fn entry_of(file: &SessionFile, place: usize, event: Event) -> Entry
 pub fn entries_of(heap: Global, file: &SessionFile) -> Result<Vec<Entry>, AllocError>
     ensures entries { IfOk result (λ v. v.items ≡ day_of file.now.bytes.now file.now.header) }
 {
-    let mut entries = Vec::new(heap);
-    for record in file.events() {
-        let event = Event::decode(record.bytes);
-        entries.push(entry_of(file, record.place, event))?;
-    }
-    Ok(entries)
+    file.events()
+        .map(|record| entry_of(file, &record))
+        .collect(heap)
 }

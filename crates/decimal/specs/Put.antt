@@ -1,6 +1,9 @@
 -- A text put into bytes, if it fits.
-use Rattle.std.specs.Prelude.{ℕ, ◌+◌, cond, List, ◌++◌, length, take, drop, ℤ, Some, None, decimal, Option, nat_le}
-use Rattle.std.specs.Fmt.{signed_decimal}
+use Rattle.std.specs.Prelude.{ℕ, ◌+◌, cond, List, ◌++◌, length, take, drop, Some, None, Option, nat_le}
+
+-- the place after a text from `at` on in so many bytes, if it fits
+unfoldable pub end_in : ℕ → ℕ → List ℕ → Option ℕ
+end_in room at text = cond (nat_le (at + length text) room) (Some (at + length text)) None
 
 -- the bytes with a text written over them from `at` on
 abbrev pub put : List ℕ → ℕ → List ℕ → List ℕ
@@ -13,7 +16,3 @@ placed bytes at text = cond (nat_le (at + length text) (length bytes)) (put byte
 -- the place after the text, if it fits
 unfoldable pub placed_end : List ℕ → ℕ → List ℕ → Option ℕ
 placed_end bytes at text = cond (nat_le (at + length text) (length bytes)) (Some (at + length text)) None
-
--- two numbers with a text between them
-abbrev pub pair : ℤ → List ℕ → ℕ → List ℕ
-pair left between right = signed_decimal left ++ (between ++ decimal right)

@@ -7,8 +7,6 @@ use Rattle.std.proofs.lemmas.Bool.{leb-true, leb-false, lt-leb}
 use Rattle.records.specs.declared.record.Effect.{Effect}
 use Rattle.records.specs.declared.record.Effect.TheVariants.{Nothing, Halt, Resumption}
 use Rattle.kinds.specs.declared.halt_summary.HaltCounts.{HaltCounts}
-use Rattle.kinds.specs.declared.halt_summary.Summary.{Summary}
-use Rattle.kinds.specs.declared.halt_summary.Summary.TheVariants.{OverLong, Counted}
 use Rattle.kinds.specs.declared.halt_summary.HaltSummary.{HaltSummary}
 use Rattle.kinds.specs.declared.kind.Entry.{Entry}
 use Rattle.kinds.specs.Halts.{counts, met, summed, summed_up, counts_of, summary_of, Clerk, noted, walked, clerk, Tallies}
@@ -57,14 +55,14 @@ one_noted (Some Halt) = refl
 one_noted (Some Resumption) = refl
 
 pub tallies_one : (e : Entry) → Tallies (e ∷ []) (summary_of e)
-tallies_one e = ap Counted (one_noted e.code.effect)
+tallies_one e = ap Some (one_noted e.code.effect)
 
 -- ---- one event more
 
-read_counts : (n : ℕ) (k : Clerk) → k.unmet + k.halts ≤ n → n ≤ 65536 → counts (Counted (counted n k)) ≡ Some (counted n k)
+read_counts : (n : ℕ) (k : Clerk) → k.unmet + k.halts ≤ n → n ≤ 65536 → counts (Some (counted n k)) ≡ Some (counted n k)
 read_counts n k h l = grind (arith, nat_tests)
 
-read_one : (f : Option Effect) → counts (Counted (counts_of f)) ≡ Some (counts_of f)
+read_one : (f : Option Effect) → counts (Some (counts_of f)) ≡ Some (counts_of f)
 read_one None = refl
 read_one (Some Nothing) = refl
 read_one (Some Halt) = refl
@@ -76,8 +74,8 @@ one_event (Some Nothing) = refl
 one_event (Some Halt) = refl
 one_event (Some Resumption) = refl
 
-longer : (es : List Entry) (m : Summary) (e : Entry) (t : Bool) → nat_le (length es) 65536 ≡ t → m ≡ cond t (Counted (counted (length es) (clerk es))) OverLong
-    → summed (counts m) (counts (Counted (counts_of e.code.effect))) ≡ cond (nat_le (length es + 1) 65536) (Counted (counted (length es + 1) (noted e.code.effect (clerk es)))) OverLong
+longer : (es : List Entry) (m : Option HaltCounts) (e : Entry) (t : Bool) → nat_le (length es) 65536 ≡ t → m ≡ cond t (Some (counted (length es) (clerk es))) None
+    → summed (counts m) (counts (Some (counts_of e.code.effect))) ≡ cond (nat_le (length es + 1) 65536) (Some (counted (length es + 1) (noted e.code.effect (clerk es)))) None
 longer es m e true t h =
     let k = clerk es in
     let left = ap counts h ∙ read_counts (length es) k (omega (arith, walked_bound (record { unmet = 0; halts = 0 }) es)) (leb-true _ _ t) in
@@ -94,4 +92,4 @@ tallies_more es m e h =
     let start : Clerk = record { unmet = 0; halts = 0 } in
     let l = length_push es e in
     let w = walked_push start es e in
-    longer es m.summary e (nat_le (length es) 65536) refl h ∙ rw (l, w) refl
+    longer es m.stored e (nat_le (length es) 65536) refl h ∙ rw (l, w) refl

@@ -3,8 +3,6 @@ use Rattle.std.specs.Prelude.{◌≡◌, ℕ, ◌+◌, ◌-◌, min, Bool, cond,
 use Rattle.records.specs.declared.record.Effect.{Effect}
 use Rattle.records.specs.declared.record.Effect.TheVariants.{Nothing, Halt, Resumption}
 use Rattle.kinds.specs.declared.halt_summary.HaltCounts.{HaltCounts}
-use Rattle.kinds.specs.declared.halt_summary.Summary.{Summary}
-use Rattle.kinds.specs.declared.halt_summary.Summary.TheVariants.{OverLong, Counted}
 use Rattle.kinds.specs.declared.halt_summary.HaltSummary.{HaltSummary}
 use Rattle.kinds.specs.declared.kind.Entry.{Entry}
 
@@ -13,9 +11,9 @@ abbrev pub possible : HaltCounts → Bool
 possible k = nat_le (k.unmatched + k.pending) k.events && nat_le k.events 65536
 
 -- what a summary is read as: impossible counts stand for an over-long run
-abbrev pub counts : Summary → Option HaltCounts
-counts OverLong = None
-counts (Counted k) = cond (possible k) (Some k) None
+abbrev pub counts : Option HaltCounts → Option HaltCounts
+counts None = None
+counts (Some k) = cond (possible k) (Some k) None
 
 -- the counts of a run and the next: the resumptions of the next end halts that are still open
 abbrev pub met : HaltCounts → HaltCounts → HaltCounts
@@ -26,13 +24,13 @@ met x y = record {
 }
 
 -- both together, unless they are too long
-abbrev pub summed : Option HaltCounts → Option HaltCounts → Summary
-summed None y = OverLong
-summed (Some x) None = OverLong
-summed (Some x) (Some y) = cond (nat_le (x.events + y.events) 65536) (Counted (met x y)) OverLong
+abbrev pub summed : Option HaltCounts → Option HaltCounts → Option HaltCounts
+summed None y = None
+summed (Some x) None = None
+summed (Some x) (Some y) = cond (nat_le (x.events + y.events) 65536) (Some (met x y)) None
 
 abbrev pub summed_up : HaltSummary → HaltSummary → HaltSummary
-summed_up x y = record { summary = summed (counts x.summary) (counts y.summary) }
+summed_up x y = record { stored = summed (counts x.stored) (counts y.stored) }
 
 -- the counts of an event, by its code's effect
 abbrev pub counts_of : Option Effect → HaltCounts
@@ -43,7 +41,7 @@ counts_of (Some Resumption) = record { events = 1; unmatched = 1; pending = 0 }
 
 -- the summary of an event
 abbrev pub summary_of : Entry → HaltSummary
-summary_of e = record { summary = Counted (counts_of e.code.effect) }
+summary_of e = record { stored = Some (counts_of e.code.effect) }
 
 -- a clerk who walks the events notes how many halts are open, and how many resumptions met none
 pub record Clerk : Type 0 where
@@ -69,7 +67,7 @@ clerk es = walked (record { unmet = 0; halts = 0 }) es
 -- the summary of a run has the clerk's notes, and is over-long just where there are more than 65,536 events
 abbrev pub Tallies : List Entry → HaltSummary → Type 0
 Tallies es m =
-    m.summary ≡ cond (nat_le (length es) 65536) (Counted (record { events = length es; unmatched = (clerk es).unmet; pending = (clerk es).halts })) OverLong
+    m.stored ≡ cond (nat_le (length es) 65536) (Some (record { events = length es; unmatched = (clerk es).unmet; pending = (clerk es).halts })) None
 
 abbrev pub counts_text : Option HaltCounts → List ℕ
 counts_text None = codes "over-long"
@@ -77,4 +75,4 @@ counts_text (Some k) = decimal k.unmatched ++ (codes " " ++ decimal k.pending)
 
 -- the resumptions that met no halt and the halts still open, or `over-long`
 abbrev pub halt_text : HaltSummary → List ℕ
-halt_text m = counts_text (counts m.summary)
+halt_text m = counts_text (counts m.stored)

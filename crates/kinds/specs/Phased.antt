@@ -31,7 +31,7 @@ module _ (h : ℕ → ℕ) (small : (q : ℕ) → h q < 8) where
   packed_below zero = omega arith
   packed_below (suc k) = omega (arith, pow-suc 8 k, packed_below k, small (7 - k))
 
-packed_same : (h g : ℕ → ℕ) → ((q : ℕ) → q < 8 → h q ≡ g q) → (k : ℕ) → packed h k ≡ packed g k
+pub packed_same : (h g : ℕ → ℕ) → ((q : ℕ) → q < 8 → h q ≡ g q) → (k : ℕ) → packed h k ≡ packed g k
 packed_same h g same zero = refl
 packed_same h g same (suc k) = let a = same (7 - k) (omega arith) in let b = packed_same h g same k in cc
 
@@ -56,7 +56,7 @@ composed_assoc a b c =
     let made : ℕ → PhaseMap = λ n. record { bits = n } in
     composed_is (composed a b) c ∙ ap made same ∙ sym (composed_is a (composed b c))
 
--- ---- the loop that composes, from the highest phase down
+-- ---- composing from the highest phase down
 
 module _ (f g : PhaseMap) (n bits : ℕ) (low : 0 < n) (high : n ≤ 8) (done : bits ≡ packed (λ q. sends g (sends f q)) (8 - n)) where
   -- the bits leave room for one phase more

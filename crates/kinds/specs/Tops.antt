@@ -1,10 +1,12 @@
 -- The first event at the highest price, with one event more.
-use Rattle.std.specs.Prelude.{◌≡◌, ℕ, zero, suc, ◌<◌, Bool, true, false, cond, ◌⊎◌, List, [], ◌∷◌, ◌++◌, length, ◌≤ℤ◌, ◌<ℤ◌, Some, None, Option, MatchOption, ◌==◌, int_lt, refl}
-use Rattle.std.proofs.Common.{sym, ap, subst, ◌∙◌, inl, inr, ⊎_elim, arith, add-zero}
+use Rattle.std.specs.Prelude.{◌≡◌, ℕ, ◌<◌, Bool, true, false, cond, ◌⊎◌, List, [], ◌∷◌, ◌++◌, length, ◌≤ℤ◌, ◌<ℤ◌, Some, None, Option, MatchOption, ◌==◌, int_lt, refl}
+use Rattle.std.proofs.Common.{sym, subst, ◌∙◌, ⊎_elim, arith}
 use Rattle.std.proofs.lemmas.Int.{ints}
 use Rattle.std.proofs.lemmas.Bool.{eqb-true, eqb-false}
+use Rattle.std.proofs.lemmas.Grind.{common_steps}
+use Rattle.std.proofs.lemmas.Option.{gets, slice_get_within}
 use Rattle.std.specs.List.{slice_get}
-use Rattle.semigroup.proofs.Places.{nth_left, nth_right}
+use Rattle.semigroup.proofs.Places.{nth_left}
 use Rattle.kinds.specs.declared.extreme.Best.{Best}
 use Rattle.kinds.specs.declared.extreme.Extreme.{Extreme}
 use Rattle.kinds.specs.declared.kind.Entry.{Entry}
@@ -12,24 +14,12 @@ use Rattle.kinds.specs.Highest.{higher, higher_of, extreme_of, Priced, Unpriced,
 
 -- ---- places of a list with one element more
 
-nth_below : {A : Type 0} (xs : List A) (i : ℕ) (x : A) → slice_get xs i ≡ Some x → i < length xs
-nth_below [] i x h = absurd (let z : ◌≡◌ {A = ℕ} 0 1 = cc in omega arith)
-nth_below (y ∷ xs) zero x h = omega arith
-nth_below (y ∷ xs) (suc i) x h = omega (arith, nth_below xs i x h)
-
 nth_last : {A : Type 0} (xs : List A) (z : A) → slice_get (xs ++ (z ∷ [])) (length xs) ≡ Some z
-nth_last xs z = rw add-zero at (nth_right xs (z ∷ []) 0)
+nth_last xs z = grind (arith, common_steps, gets)
 
 -- an element of the longer list is one of the shorter list, or the last
 nth_push : {A : Type 0} (xs : List A) (z : A) (i : ℕ) (x : A) → slice_get (xs ++ (z ∷ [])) i ≡ Some x → ((i < length xs) × (slice_get xs i ≡ Some x)) ⊎ ((i ≡ length xs) × (z ≡ x))
-nth_push [] z zero x h = inr (refl, cc)
-nth_push [] z (suc i) x h = absurd (let e : ◌≡◌ {A = ℕ} 0 1 = cc in omega arith)
-nth_push (y ∷ xs) z zero x h = inl (omega arith, h)
-nth_push (y ∷ xs) z (suc i) x h =
-    ⊎_elim
-    (λ (p : (i < length xs) × (slice_get xs i ≡ Some x)). inl (omega (arith, p.0), p.1))
-    (λ (p : (i ≡ length xs) × (z ≡ x)). inr (ap suc p.0, p.1))
-    (nth_push xs z i x h)
+nth_push xs z i x h = grind (arith, common_steps, gets)
 
 -- ---- one event more
 
@@ -49,7 +39,7 @@ module _ (es : List Entry) (e : Entry) where
   -- an event that does not pass the price so far changes nothing
   stays : (b : Best) → (Priced e → e.event.price ≤ℤ b.price) → FirstHighest es b → FirstHighest (es ++ (e ∷ [])) b
   stays b low h =
-      let inside = nth_below es h.place h.entry h.stands in
+      let inside = slice_get_within es h.place h.entry h.stands in
       record {
         place = h.place;
         entry = h.entry;

@@ -7,18 +7,18 @@ ghost use Rattle.kinds.specs.Runs.{product_means};
 ghost use Rattle.kinds.specs.Tops.{tops_one, tops_more};
 
 use crate::kind::{Entry, Kind};
-use decimal::{put_pair, put_text};
+use decimal::Text;
 use semigroup::Semigroup;
 
 /// A price and the number of its event.
-#[derive(Clone, Copy)]
+#[derive(Clone, Copy, Debug, PartialEq, Eq)]
 pub struct Best {
     pub price: i32,
     pub event: u16,
 }
 
 /// The first event at the highest price of a run, or none where no event has a price.
-#[derive(Clone, Copy)]
+#[derive(Clone, Copy, Debug, PartialEq, Eq)]
 pub struct Extreme {
     best: Option<Best>,
 }
@@ -39,21 +39,30 @@ impl Semigroup for Extreme {
 
     fn combine(self, right: Extreme) -> Extreme {
         match (self.best, right.best) {
-            (None, _) => right,
-            (_, None) => self,
-            (Some(left), Some(later)) => if left.price >= later.price {
-                self
-            } else {
-                right
-            },
+            (Some(left), Some(later)) if left.price >= later.price => self,
+            (Some(_), None) => self,
+            _ => right,
         }
+    }
+}
+
+/// The element that an event gives.
+impl From<Entry> for Extreme {
+    ghost from_gives = { λ e m. m ≡ extreme_of e };
+
+    fn from(entry: Entry) -> Extreme {
+        let best = entry.event.trade().map(|trade| Best {
+            price: trade.price,
+            event: entry.number,
+        });
+        Extreme { best }
     }
 }
 
 impl Kind for Extreme {
     const LETTER: char = 'H';
 
-    ghost letter = { 72 };
+    ghost LETTER = { 72 };
 
     ghost element = { extreme_of };
 
@@ -61,29 +70,14 @@ impl Kind for Extreme {
 
     ghost text = { extreme_text };
 
+    ghost made = { λ e m h. h };
+
     ghost meaning = { product_means higher_of extreme_of Tops tops_one tops_more };
-
-    fn own_letter() -> char {
-        Self::LETTER
-    }
-
-    fn of_entry(entry: &Entry) -> Extreme {
-        if entry.event.price_flag == 1 {
-            Extreme {
-                best: Some(Best {
-                    price: entry.event.price,
-                    event: entry.number,
-                }),
-            }
-        } else {
-            Extreme { best: None }
-        }
-    }
 
     fn put_answer(self, out: &mut [u8], at: usize) -> Option<usize> {
         match self.best {
-            None => put_text(out, at, b"none"),
-            Some(best) => put_pair(out, at, best.price, b" at ", u32::from(best.event)),
+            None => "none".put(out, at),
+            Some(best) => (best.price, (" at ", u32::from(best.event))).put(out, at),
         }
     }
 }

@@ -7,7 +7,7 @@ ghost use Rattle.kinds.specs.Runs.{product_means};
 ghost use Rattle.kinds.specs.Clerks.{tallies_one, tallies_more};
 
 use crate::kind::{Entry, Kind};
-use decimal::{put_pair, put_text};
+use decimal::Text;
 use records::record::Effect;
 use semigroup::Semigroup;
 
@@ -15,7 +15,7 @@ use semigroup::Semigroup;
 const LONGEST: u32 = 65_536;
 
 /// What a run of events counts up to.
-#[derive(Clone, Copy)]
+#[derive(Clone, Copy, Debug, PartialEq, Eq)]
 pub struct HaltCounts {
     pub events: u32,
     /// Resumptions that met no open halt.
@@ -24,33 +24,23 @@ pub struct HaltCounts {
     pub pending: u32,
 }
 
-/// What is stored. Any counts may stand here.
-#[derive(Clone, Copy)]
-enum Summary {
-    OverLong,
-    Counted(HaltCounts),
-}
-
 /// The counts of a run, or that it is too long to count. Counts that no run of up to 65,536 events has are read as
 /// over-long.
 #[derive(Clone, Copy)]
 pub struct HaltSummary {
-    summary: Summary,
+    /// None of an over-long run. Any counts may stand here.
+    stored: Option<HaltCounts>,
 }
 
 impl HaltSummary {
     /// The counts, or none if the run is over-long.
     pub fn counts(self) -> Option<HaltCounts>
-        ensures value { result ≡ counts self.summary }
+        ensures value { result ≡ counts self.stored }
         ensures bounded { IfSome result (λ k. (k.unmatched + k.pending ≤ k.events) × (k.events ≤ 65536)) }
     {
-        match self.summary {
-            Summary::Counted(k)
-                if k.events <= LONGEST
-                    && k.unmatched <= k.events
-                    && k.pending <= k.events - k.unmatched => { Some(k) }
-            _ => None,
-        }
+        self.stored.filter(|k| {
+            k.events <= LONGEST && k.unmatched <= k.events && k.pending <= k.events - k.unmatched
+        })
     }
 }
 
@@ -60,25 +50,45 @@ impl Semigroup for HaltSummary {
     ghost associative = { Prim.search rules };
 
     fn combine(self, right: HaltSummary) -> HaltSummary {
-        let summary = match (self.counts(), right.counts()) {
+        let stored = match (self.counts(), right.counts()) {
             (Some(left), Some(later)) if left.events + later.events <= LONGEST => {
                 let met = left.pending.min(later.unmatched);
-                Summary::Counted(HaltCounts {
+                Some(HaltCounts {
                     events: left.events + later.events,
                     unmatched: left.unmatched + later.unmatched - met,
                     pending: left.pending + later.pending - met,
                 })
             }
-            _ => Summary::OverLong,
+            _ => None,
         };
-        HaltSummary { summary }
+        HaltSummary { stored }
+    }
+}
+
+/// The element that an event gives.
+impl From<Entry> for HaltSummary {
+    ghost from_gives = { λ e m. m ≡ summary_of e };
+
+    fn from(entry: Entry) -> HaltSummary {
+        let (unmatched, pending) = match entry.code.effect {
+            Some(Effect::Halt) => (0, 1),
+            Some(Effect::Resumption) => (1, 0),
+            Some(Effect::Nothing) | None => (0, 0),
+        };
+        HaltSummary {
+            stored: Some(HaltCounts {
+                events: 1,
+                unmatched,
+                pending,
+            }),
+        }
     }
 }
 
 impl Kind for HaltSummary {
     const LETTER: char = 'B';
 
-    ghost letter = { 66 };
+    ghost LETTER = { 66 };
 
     ghost element = { summary_of };
 
@@ -86,31 +96,14 @@ impl Kind for HaltSummary {
 
     ghost text = { halt_text };
 
+    ghost made = { λ e m h. h };
+
     ghost meaning = { product_means summed_up summary_of Tallies tallies_one tallies_more };
-
-    fn own_letter() -> char {
-        Self::LETTER
-    }
-
-    fn of_entry(entry: &Entry) -> HaltSummary {
-        let (unmatched, pending) = match entry.code.effect {
-            Some(Effect::Halt) => (0, 1),
-            Some(Effect::Resumption) => (1, 0),
-            Some(Effect::Nothing) | None => (0, 0),
-        };
-        HaltSummary {
-            summary: Summary::Counted(HaltCounts {
-                events: 1,
-                unmatched,
-                pending,
-            }),
-        }
-    }
 
     fn put_answer(self, out: &mut [u8], at: usize) -> Option<usize> {
         match self.counts() {
-            None => put_text(out, at, b"over-long"),
-            Some(k) => put_pair(out, at, k.unmatched as i32, b" ", k.pending),
+            None => "over-long".put(out, at),
+            Some(k) => (k.unmatched, (" ", k.pending)).put(out, at),
         }
     }
 }

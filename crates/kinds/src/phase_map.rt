@@ -6,10 +6,11 @@ ghost use Rattle.kinds.specs.Phased.{composed_assoc, passes_one, passes_more};
 ghost use Rattle.kinds.specs.Runs.{product_means};
 
 use crate::kind::{Entry, Kind};
-use decimal::put_text;
+use decimal::Text;
 use semigroup::Semigroup;
 
-/// A map of the phases 0 to 7: bits 3q to 3q + 2 are the phase reached from q. Higher bits than these 24 are not read.
+/// A map of the phases 0 to 7, packed as in the record of a code: bits 3q to 3q + 2 are the phase reached from q. Higher
+/// bits than these 24 are not read.
 #[derive(Clone, Copy)]
 pub struct PhaseMap {
     bits: u32,
@@ -39,18 +40,28 @@ impl Semigroup for PhaseMap {
     ghost associative = { composed_assoc };
 
     fn combine(self, right: PhaseMap) -> PhaseMap {
-        let mut bits = 0;
-        for from in (0..8).rev() {
-            bits = 8 * bits + u32::from(right.reached(self.reached(from)));
-        }
+        let bits = (0..8).rev().fold(0, |bits, from| {
+            bits << 3 | u32::from(right.reached(self.reached(from)))
+        });
         PhaseMap { bits }
+    }
+}
+
+/// The element that an event gives.
+impl From<Entry> for PhaseMap {
+    ghost from_gives = { λ e m. m ≡ phases_of e };
+
+    fn from(entry: Entry) -> PhaseMap {
+        PhaseMap {
+            bits: entry.code.phase_map,
+        }
     }
 }
 
 impl Kind for PhaseMap {
     const LETTER: char = 'P';
 
-    ghost letter = { 80 };
+    ghost LETTER = { 80 };
 
     ghost element = { phases_of };
 
@@ -58,29 +69,12 @@ impl Kind for PhaseMap {
 
     ghost text = { phase_text };
 
+    ghost made = { λ e m h. h };
+
     ghost meaning = { product_means composed phases_of Passes passes_one passes_more };
 
-    fn own_letter() -> char {
-        Self::LETTER
-    }
-
-    fn of_entry(entry: &Entry) -> PhaseMap {
-        PhaseMap {
-            bits: entry.code.phase_map,
-        }
-    }
-
     fn put_answer(self, out: &mut [u8], at: usize) -> Option<usize> {
-        let digits = [
-            self.digit(0),
-            self.digit(1),
-            self.digit(2),
-            self.digit(3),
-            self.digit(4),
-            self.digit(5),
-            self.digit(6),
-            self.digit(7),
-        ];
-        put_text(out, at, &digits)
+        let digits = [0, 1, 2, 3, 4, 5, 6, 7].map(|from| self.digit(from));
+        digits.as_slice().put(out, at)
     }
 }

@@ -1,8 +1,8 @@
 //! Elements by example.
 
 use crate::chain_map::ChainMap;
-use crate::extreme::Extreme;
-use crate::halt_summary::HaltSummary;
+use crate::extreme::{Best, Extreme};
+use crate::halt_summary::{HaltCounts, HaltSummary};
 use crate::kind::{Entry, Kind, elements_of};
 use records::record::{Code, Effect, Event};
 use semigroup::{Semigroup, product_of};
@@ -33,10 +33,7 @@ fn entry(number: u16, factor: u16, effect: Effect, price: i32, quantity: u32) ->
 /// The product of the entries' elements.
 fn whole<K: Kind>(rt: &HostRuntime, entries: &[Entry]) -> Result<K, Fail> {
     let elements = elements_of::<K>(rt.alloc(), entries)?;
-    match product_of(&elements) {
-        Some(product) => Ok(product),
-        None => Err(Fail::new("no events")),
-    }
+    Ok(product_of(&elements).ok_or("no events")?)
 }
 
 #[test]
@@ -45,8 +42,12 @@ fn resumptions_end_halts(rt: HostRuntime) -> Result<(), Fail> {
     let end = entry(0, 1, Effect::Resumption, 0, 0);
     let left = whole::<HaltSummary>(&rt, &[halt, halt])?;
     let right = whole::<HaltSummary>(&rt, &[end, end, end, halt])?;
-    let k = left.combine(right).counts().ok_or("over-long")?;
-    assert_eq!(rt; (k.events, k.unmatched, k.pending), (6, 1, 1));
+    let expected = HaltCounts {
+        events: 6,
+        unmatched: 1,
+        pending: 1,
+    };
+    assert_eq!(rt; left.combine(right).counts(), Some(expected));
     Ok(())
 }
 
@@ -56,8 +57,11 @@ fn first_of_equal_prices(rt: HostRuntime) -> Result<(), Fail> {
     let first = entry(3, 1, Effect::Nothing, 105, 4);
     let second = entry(4, 1, Effect::Nothing, 105, 9);
     let day = whole::<Extreme>(&rt, &[low, first, second])?;
-    let best = day.best().ok_or("no price")?;
-    assert_eq!(rt; (best.price, best.event), (105, 3));
+    let expected = Best {
+        price: 105,
+        event: 3,
+    };
+    assert_eq!(rt; day.best(), Some(expected));
     Ok(())
 }
 

@@ -24,12 +24,8 @@ pub trait Semigroup: Copy {
 pub fn product_of<T: Semigroup>(items: &[T]) -> Option<T>
     ensures value { result ≡ product T.Semigroup.op items.now }
 {
-    let mut so_far: Option<T> = None;
-    for item in items {
-        so_far = match so_far {
-            None => Some(*item),
-            Some(left) => Some(left.combine(*item)),
-        };
-    }
-    so_far
+    items
+        .iter()
+        .copied()
+        .reduce(|left, right| left.combine(right))
 }

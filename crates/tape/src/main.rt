@@ -6,26 +6,22 @@ use day::entries_of;
 use kinds::chain_map::ChainMap;
 use kinds::extreme::Extreme;
 use kinds::halt_summary::HaltSummary;
-use kinds::kind::{Entry, Kind, elements_of};
+use kinds::kind::{AnswerText, Entry, Kind, elements_of};
 use kinds::phase_map::PhaseMap;
 use listing::line::{EventLine, HeaderLine};
 use records::record::Event;
 use semigroup::product_of;
 use session::file::{SessionFile, open};
+use std::alloc::Global;
 use std::io::{BufWriter, ErrorKind, Write};
+use std::rt::Files;
 use std::{fs, io};
 
 /// The bytes of the day, none where there is no such file.
-fn read_day(rt: &HostRuntime) -> io::Result<Vec<u8>> {
+fn read_day<R: Files + AllocGlobal>(rt: &R) -> io::Result<Vec<u8>> {
     match fs::read(rt, "day.ses") {
-        Ok(bytes) => Ok(bytes),
-        Err(error) => {
-            if error.kind() == ErrorKind::NotFound {
-                Ok(Vec::new(rt.alloc()))
-            } else {
-                Err(error)
-            }
-        }
+        Err(error) if error.kind() == ErrorKind::NotFound => Ok(Vec::new(rt.alloc())),
+        outcome => outcome,
     }
 }
 
@@ -33,14 +29,11 @@ fn read_day(rt: &HostRuntime) -> io::Result<Vec<u8>> {
 fn list_events(out: &mut impl Write, file: &SessionFile) -> io::Result<()> {
     for record in file.events() {
         let event = Event::decode(record.bytes);
-        let effect = match file.code_at(event.code as usize) {
-            Some(code) => code.effect,
-            None => None,
-        };
+        let code = file.code_at(usize::from(event.code));
         let line = EventLine {
             number: record.place,
             event,
-            effect,
+            effect: code.and_then(|code| code.effect),
         };
         writeln!(out, "{line}")?;
     }
@@ -49,36 +42,32 @@ fn list_events(out: &mut impl Write, file: &SessionFile) -> io::Result<()> {
 
 /// Writes a kind's name and the text of the whole day's product.
 fn list_product<K: Kind>(
-    rt: &HostRuntime,
+    heap: Global,
     out: &mut impl Write,
     name: &str,
     entries: &[Entry],
 ) -> anyhow::Result<()> {
-    let elements = elements_of::<K>(rt.alloc(), entries)?;
+    let elements = elements_of::<K>(heap, entries)?;
     if let Some(product) = product_of(&elements) {
-        let mut text = [0; 32];
-        let end = product.put_answer(&mut text, 0).unwrap_or(0);
-        write!(out, "{name} ")?;
-        if let Some(text) = text.get(0..end) {
-            out.write_all(text)?;
-        }
-        writeln!(out)?;
+        let text = AnswerText(product);
+        writeln!(out, "{name} {text}")?;
     }
     Ok(())
 }
 
 /// Writes a line for the product of each kind.
-fn list_products(rt: &HostRuntime, out: &mut impl Write, file: &SessionFile) -> anyhow::Result<()> {
-    let entries = entries_of(rt.alloc(), file)?;
-    list_product::<PhaseMap>(rt, out, "phase map", &entries)?;
-    list_product::<Extreme>(rt, out, "extreme", &entries)?;
-    list_product::<HaltSummary>(rt, out, "halt summary", &entries)?;
-    list_product::<ChainMap>(rt, out, "chain map", &entries)
+fn list_products(heap: Global, out: &mut impl Write, file: &SessionFile) -> anyhow::Result<()> {
+    let entries = entries_of(heap, file)?;
+    list_product::<PhaseMap>(heap, out, "phase map", &entries)?;
+    list_product::<Extreme>(heap, out, "extreme", &entries)?;
+    list_product::<HaltSummary>(heap, out, "halt summary", &entries)?;
+    list_product::<ChainMap>(heap, out, "chain map", &entries)
 }
 
-fn run(rt: &HostRuntime) -> anyhow::Result<()> {
+fn run<R: Files + Print + AllocGlobal>(rt: &R) -> anyhow::Result<()> {
+    let heap = rt.alloc();
     let bytes = read_day(rt)?;
-    let mut out = BufWriter::new(rt.alloc(), rt.stdout())?;
+    let mut out = BufWriter::new(heap, io::writer(rt))?;
     match open(&bytes) {
         Ok(file) => {
             let line = HeaderLine {
@@ -86,7 +75,7 @@ fn run(rt: &HostRuntime) -> anyhow::Result<()> {
             };
             writeln!(out, "{line}")?;
             list_events(&mut out, &file)?;
-            list_products(rt, &mut out, &file)?;
+            list_products(heap, &mut out, &file)?;
         }
         Err(fault) => writeln!(out, "day.ses is unusable: {fault}")?,
     }

@@ -1,11 +1,12 @@
-use Rattle.std.proofs.Common.{map, ap, ◌∙◌, arith}
-use Rattle.std.proofs.lemmas.List.{take_all}
+use Rattle.std.proofs.Common.{rules}
+use Rattle.std.proofs.lemmas.Iterator.{items_from_collect, YieldsList-from_map, YieldsList-from_slice}
+use Rattle.std.proofs.lemmas.Result.{IfOk-weaker}
 use Rattle.kinds.specs.Runs.{over_means}
 use Rattle.kinds.proofs.kind.elements_of.Goals as goal
 
-pub returns : goal.returns
-returns g c =
+pub returns-clause-meaning : goal.returns-clause-meaning
+returns-clause-meaning g c =
     let es = c.args.entries.now in
-    let all = take_all c.loop-entry.entry-index es (omega arith) in
-    let elements = c.loop-entry.invariant ∙ ap (map g.K.Kind.element) all in
-    record { elements = elements; meaning = over_means g.K.Semigroup.op g.K.Kind.element g.K.Kind.Means g.met.K.Kind.meaning es _ elements }
+    let element = g.K.Kind.element in
+    let elements = items_from_collect _ c.collect.ensures.ran (YieldsList-from_map _ element (YieldsList-from_slice es cc) c.map.ensures.closure (λ x r q k. search rules)) in
+    IfOk-weaker c.collect.result _ _ (λ v same. over_means g.K.Semigroup.op element g.K.Kind.Means g.met.K.Kind.meaning es _ same) elements
