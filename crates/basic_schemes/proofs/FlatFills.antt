@@ -50,8 +50,8 @@ module _ {A : Type 0} (op : A → A → A) (n : ℕ) where
   rows_items t = record { holds = λ k i l m. let e : k ≡ 0 = omega arith in rw e (item_holds t i (omega arith)); kept = λ c w. refl }
 
   -- one row more
-  pub rows_more : (g a b : ℕ) (t t' t'' : List A) → 0 < g → g < n → Rows op n g t t' → Redone op n g a b t' t'' → a ≡ 0 → b ≡ n - g → Rows op n (g + 1) t t''
-  rows_more g a b t t' t'' up l r f a-is b-is =
+  pub rows_more : (g : ℕ) (t t' t'' : List A) → 0 < g → g < n → Rows op n g t t' → Redone op n g 0 (n - g) t' t'' → Rows op n (g + 1) t t''
+  rows_more g t t' t'' up l r f =
       let same : take n t' ≡ take n t = take_same n t' t (λ c m. r.kept c (inl m)) in
       let past = items_before n g up (omega arith) in
       let e = row_more n g (omega arith) in

@@ -9,7 +9,9 @@ use Rattle.scheme.specs.Table.{AsBuilt}
 use Rattle.scheme.specs.Calls.{Renewed}
 use Rattle.basic_schemes.specs.FlatPlan.{row_start, locate, flat_plan}
 use Rattle.basic_schemes.specs.FlatRows.{RowHolds, Redone}
-use Rattle.basic_schemes.proofs.Changes.{take_changed, inside_or_not}
+use Rattle.std.proofs.Math.Seq.{take-set-lt}
+use Rattle.scheme.specs.Plan.{Contains, Misses}
+use Rattle.scheme.proofs.Standing.{in_or_out}
 use Rattle.basic_schemes.specs.FlatLayout.{row_none, row_past, items_before, interval_at, place, place_span, cell_below}
 use Rattle.basic_schemes.proofs.FlatFills.{item_holds}
 
@@ -32,10 +34,10 @@ module _ {A : Type 0} (op : A → A → A) (n p : ℕ) (pn : p < n) where
       record {
         holds = λ held k i u-k v. ⊎_elim
             (λ (e : k ≡ g). rw e (⊎_elim
-            (λ (w : (a ≤ i) × (i < b)). rw (← same) (f.holds (λ z x y. rw same (r.holds held (g - 1) z (omega arith) (omega arith))) i w.0 w.1))
-            (λ (w : (a ≤ i) × (i < b) → ⊥). f.kept (row_start n g + i) (λ z s x y. let s' : i ≡ z = omega arith in w (omega arith, omega arith))
-            ∙ fresh i (omega arith) ∙ held g i (omega arith) (λ x y. w (omega arith, omega arith)))
-            (inside_or_not a b i)))
+            (λ (w : Contains (record { from = a; to = b }) i). rw (← same) (f.holds (λ z x y. rw same (r.holds held (g - 1) z (omega arith) (omega arith))) i w.0 w.1))
+            (λ (w : Misses (record { from = a; to = b }) i). f.kept (row_start n g + i) (λ z s x y. omega arith)
+            ∙ fresh i (omega arith) ∙ held g i (omega arith) (λ x y. omega arith))
+            (in_or_out (record { from = a; to = b }) i)))
             (λ (e : k ≡ g → ⊥). f.kept (row_start n k + i) (λ z s x y. let q = row_past n k g i (omega arith) (omega arith) v in omega arith) ∙ r.holds held k i (omega arith) v)
             (cases_eq k g);
         kept = λ c out. f.kept c (λ i e x y. out g i up (omega arith) (omega arith) e (omega arith) (omega arith)) ∙ r.kept c (λ k i x y z e v w. out k i x (omega arith) z e v w);
@@ -50,7 +52,7 @@ module _ {A : Type 0} (op : A → A → A) (n p : ℕ) (pn : p < n) where
       (λ (z : k ≡ 0 → ⊥). omega (arith, items_before n k (omega arith) (omega arith)))
       (cases_eq k 0) in
       let side : (p < i) ⊎ (i + k + 1 ≤ p) = ⊎_elim (λ (l : p < i). inl l) (λ (l : i ≤ p). ⊎_elim (λ (m : p < i + k + 1). absurd (out l (omega arith))) (λ (m : i + k + 1 ≤ p). inr m) (cases_lt p (i + k + 1))) (cases_lt p i) in
-      rw (take_changed n t p x) (nth_set_other t p (row_start n k + i) x away ∙ was ∙ sym (over_set_out op (take n t) p x i (i + k + 1) side))
+      rw (take-set-lt n t p x pn) (nth_set_other t p (row_start n k + i) x away ∙ was ∙ sym (over_set_out op (take n t) p x i (i + k + 1) side))
 
   -- all rows
   pub flat_renewed : (x : A) (t t' : List A) → n ≤ length t → Renewing op n p n (set t p x) t' → Renewed op flat_plan n p x t t'
@@ -59,7 +61,7 @@ module _ {A : Type 0} (op : A → A → A) (n p : ℕ) (pn : p < n) where
     containing = λ c m inside s.
         let q = place n c m in
         let fits = q.fits in
-        rw (place_span n c q, ← take_changed n t p x) (ap (slice_get t') q.is ∙ r.holds (others_hold x t s) q.row q.first (omega arith) fits);
+        rw (place_span n c q, ← take-set-lt n t p x pn) (ap (slice_get t') q.is ∙ r.holds (others_hold x t s) q.row q.first (omega arith) fits);
     missing = λ c m outside. kept_apart c (λ k i f e y z. ⊎_elim (λ (l : p < (locate n 0 n c).from). let s = ap (locate n 0 n) e ∙ interval_at n k i f in omega (arith, rw s at l)) (λ (l : (locate n 0 n c).to ≤ p). let s = ap (locate n 0 n) e ∙ interval_at n k i f in omega (arith, rw s at l)) outside);
     past = λ c m. kept_apart c (λ k i f e y z. omega (arith, cell_below n k i f));
   }

@@ -1,16 +1,21 @@
 -- A cell from its neighbour in the half, and one cell more in a row.
-use Rattle.std.proofs.Common.{◌≡◌, ℕ, ◌+◌, ◌-◌, ◌*◌, ◌/◌, ◌^◌, ◌<◌, ◌≤◌, min, ◌⊎◌, List, length, take, set, Some, sym, refl, ap, ◌∙◌, subst, inl, inr, ⊎_elim, add-mul, one-mul, arith}
-use lib.Pow.{shr_mono}
+use Rattle.std.proofs.Common.{◌≡◌, ℕ, ◌+◌, ◌-◌, ◌*◌, ◌/◌, ◌^◌, ◌<◌, ◌≤◌, min, ◌⊎◌, List, length, take, set, Some, sym, refl, ap, ◌∙◌, subst, inl, inr, ⊎_elim, add-mul, arith}
 use Rattle.std.specs.List.{slice_get}
-use Rattle.std.proofs.lemmas.Nat.{pow_pos, shr_split, div_below, le-div, mod_below, shr_le}
+use Rattle.std.proofs.lemmas.Nat.{pow_pos, shr_split, mod_below, shr_le}
+use Rattle.std.proofs.Math.Nat.{div-eq_of_lt-le}
 use Rattle.std.proofs.lemmas.Bool.{cases_eq}
 use Rattle.semigroup.proofs.Places.{nth_set_same, nth_set_other, nth_take, take_same}
 use Rattle.semigroup.proofs.Products.{over_one, over_more, over_less}
-use Rattle.basic_schemes.specs.HalvingPlan.{start_of_half, reach}
+use Rattle.scheme.specs.Blocks.{start_of_block, end_of_block}
+use Rattle.basic_schemes.specs.HalvingPlan.{reach}
 use Rattle.basic_schemes.specs.HalvingRows.{Left, Right, reached, Redone, NextHolds, PriorHolds}
 use Rattle.basic_schemes.specs.HalvingLayout.{reach_left, reach_right, reach_within, items_before}
 
 -- ---- intervals of neighbours
+
+-- the half of p has no other events than those between its start and its end
+pub same_half : (h p q : ℕ) → start_of_block (2 ^ h) p ≤ q → q < start_of_block (2 ^ h) p + 2 ^ h → q / 2 ^ h ≡ p / 2 ^ h
+same_half h p q l m = div-eq_of_lt-le (2 ^ h) l (omega (arith, add-mul (p / 2 ^ h) 1 (2 ^ h)))
 
 pub left_from : (n h p : ℕ) → Left h p → (reach n h p).from ≡ p
 left_from n h p e = ap (λ s. s.from) (reach_left n h p e)
@@ -30,40 +35,6 @@ right_from_same n h p q e s =
     let f : Right h q = rw s at e in
     ap (λ s. s.from) (reach_right n h p (λ z. omega arith)) ∙ ap (λ x. x * 2 ^ h) s ∙ sym (ap (λ s. s.from) (reach_right n h q (λ z. omega arith)))
 
--- an event whose follower is in another half is the last of its own
-half_ends : (h p : ℕ) → (p / 2 ^ h ≡ (p + 1) / 2 ^ h → ⊥) → p + 1 ≡ start_of_half h p + 2 ^ h
-half_ends h p ne =
-    let s = shr_split p h in
-    let m = mod_below p (2 ^ h) (pow_pos h) in
-    let up : p / 2 ^ h ≤ (p + 1) / 2 ^ h = shr_mono h (omega arith) in
-    let end : (p / 2 ^ h + 1) * 2 ^ h ≡ start_of_half h p + 2 ^ h = add-mul (p / 2 ^ h) 1 (2 ^ h) ∙ ap (λ x. start_of_half h p + x) (one-mul (2 ^ h)) in
-    ⊎_elim
-    (λ e. e)
-    (λ k.
-    let before : p + 1 < (p / 2 ^ h + 1) * 2 ^ h = omega arith in
-    let d = div_below (p + 1) (2 ^ h) (p / 2 ^ h + 1) (pow_pos h) before in
-    absurd (ne (omega arith)))
-    (cases_eq (p + 1) (start_of_half h p + 2 ^ h))
-
--- the last cell of a left half reaches over one event
-left_to_last : (n h p : ℕ) → p < n → Left h p → (p + 1 ≡ n) ⊎ (p / 2 ^ h ≡ (p + 1) / 2 ^ h → ⊥) → (reach n h p).to ≡ p + 1
-left_to_last n h p l e w =
-    let s = shr_split p h in
-    let m = mod_below p (2 ^ h) (pow_pos h) in
-    ap (λ s. s.to) (reach_left n h p e) ∙ ⊎_elim (λ k. omega arith) (λ ne. omega (arith, half_ends h p ne)) w
-
--- the first cell of a right half reaches over one event
-right_from_first : (n h p : ℕ) → Right h p → ((p - 1) / 2 ^ h ≡ p / 2 ^ h → ⊥) → (reach n h p).from ≡ p
-right_from_first n h p e ne =
-    let s = shr_split p h in
-    let down : (p - 1) / 2 ^ h ≤ p / 2 ^ h = shr_mono h (omega arith) in
-    ap (λ s. s.from) (reach_right n h p (λ z. omega arith)) ∙ ⊎_elim
-    (λ e. e)
-    (λ k.
-    let d = le-div (p / 2 ^ h) (p - 1) (2 ^ h) (pow_pos h) (omega arith) in
-    absurd (ne (omega arith)))
-    (cases_eq (start_of_half h p) p)
-
 -- the first event is in a left half
 pub right_past : (h p : ℕ) → Right h p → 0 < p
 right_past h p e = ⊎_elim (λ (z : p ≡ 0). let d : p / 2 ^ h ≤ p = shr_le p h in omega arith) (λ k. omega arith) (cases_eq p 0)
@@ -72,28 +43,35 @@ right_past h p e = ⊎_elim (λ (z : p ≡ 0). let d : p / 2 ^ h ≤ p = shr_le 
 
 module _ {A : Type 0} (op : A → A → A) (n h : ℕ) (t : List A) where
   -- the last cell of a left half is its item
-  pub left_one : (p : ℕ) (x : A) → p < n → Left h p → (p + 1 ≡ n) ⊎ (p / 2 ^ h ≡ (p + 1) / 2 ^ h → ⊥) → slice_get t p ≡ Some x → reached op n (take n t) h p ≡ Some x
-  left_one p x l e w f = rw (left_from n h p e, left_to_last n h p l e w) (over_one op (take n t) p ∙ nth_take n t p l ∙ f)
+  pub left_one : (p : ℕ) (x : A) → p < n → Left h p → p + 1 ≡ end_of_block n (2 ^ h) p → slice_get t p ≡ Some x → reached op n (take n t) h p ≡ Some x
+  left_one p x l e last f = rw (reach_left n h p e, ← last) (over_one op (take n t) p ∙ nth_take n t p l ∙ f)
 
   -- the first cell of a right half is its item
-  pub right_one : (p : ℕ) (x : A) → p < n → Right h p → ((p - 1) / 2 ^ h ≡ p / 2 ^ h → ⊥) → slice_get t p ≡ Some x → reached op n (take n t) h p ≡ Some x
-  right_one p x l e w f = rw (right_to n h p e, right_from_first n h p e w) (over_one op (take n t) p ∙ nth_take n t p l ∙ f)
+  pub right_one : (p : ℕ) (x : A) → p < n → Right h p → p ≡ start_of_block (2 ^ h) p → slice_get t p ≡ Some x → reached op n (take n t) h p ≡ Some x
+  right_one p x l e first f = rw (reach_right n h p (λ z. omega arith), ← first) (over_one op (take n t) p ∙ nth_take n t p l ∙ f)
 
   module _ (assoc : (a b c : A) → op (op a b) c ≡ op a (op b c)) where
     -- any other is its item and the next cell, at c
-    pub left_more : (p c : ℕ) (x y : A) → p + 1 < n → Left h p → p / 2 ^ h ≡ (p + 1) / 2 ^ h → slice_get t p ≡ Some x
+    pub left_more : (p c : ℕ) (x y : A) → p < n → Left h p → (p + 1 ≡ end_of_block n (2 ^ h) p → ⊥) → slice_get t p ≡ Some x
         → c ≡ h * n + (p + 1) → slice_get t c ≡ Some y → NextHolds op n h (p + 1) t → reached op n (take n t) h p ≡ Some (op x y)
-    left_more p c x y l e s f at beside next =
-        let g : Left h (p + 1) = rw s at e in
-        let d : reached op n (take n t) h (p + 1) ≡ Some y = sym (next l g) ∙ ap (slice_get t) (sym at) ∙ beside in
-        let w = reach_within n h (p + 1) l in
-        rw (left_from n h p e, left_to_same n h p (p + 1) e s)
+    left_more p c x y l e inner f at beside next =
+        let m = reach_within n h p l in
+        let end = ap (λ s. s.to) (reach_left n h p e) in
+        let start = shr_split p h in
+        let s : (p + 1) / 2 ^ h ≡ p / 2 ^ h = same_half h p (p + 1) (omega arith) (omega arith) in
+        let g : Left h (p + 1) = rw s e in
+        let d : reached op n (take n t) h (p + 1) ≡ Some y = sym (next (omega arith) g) ∙ ap (slice_get t) (sym at) ∙ beside in
+        let w = reach_within n h (p + 1) (omega arith) in
+        rw (left_from n h p e, left_to_same n h p (p + 1) e (sym s))
         (over_less op assoc (take n t) p (reach n h (p + 1)).to x y (omega arith) (nth_take n t p (omega arith) ∙ f) (rw (left_from n h (p + 1) g) at d))
 
     -- any other is the cell before, at c, and its item
-    pub right_more : (p c : ℕ) (x y : A) → p < n → Right h p → (p - 1) / 2 ^ h ≡ p / 2 ^ h → slice_get t p ≡ Some x
+    pub right_more : (p c : ℕ) (x y : A) → p < n → Right h p → (p ≡ start_of_block (2 ^ h) p → ⊥) → slice_get t p ≡ Some x
         → c ≡ h * n + (p - 1) → slice_get t c ≡ Some y → PriorHolds op n h p t → reached op n (take n t) h p ≡ Some (op y x)
-    right_more p c x y l e s f at beside prior =
+    right_more p c x y l e inner f at beside prior =
+        let start = shr_split p h in
+        let m = mod_below p (2 ^ h) (pow_pos h) in
+        let s : (p - 1) / 2 ^ h ≡ p / 2 ^ h = same_half h p (p - 1) (omega arith) (omega arith) in
         let g : Right h (p - 1) = rw s e in
         let past = right_past h p e in
         let d : reached op n (take n t) h (p - 1) ≡ Some y = sym (prior past g) ∙ ap (slice_get t) (sym at) ∙ beside in
@@ -111,8 +89,8 @@ pub record Grown (a b p a' b' : ℕ) : Type 0 where
   pub more : (q : ℕ) → a ≤ q → q < b → (a' ≤ q) × (q < b')
   pub each : (q : ℕ) → a' ≤ q → q < b' → (q ≡ p) ⊎ ((a ≤ q) × (q < b))
 
-pub grown_down : (a b : ℕ) → 0 < a → a ≤ b → Grown a b (a - 1) (a - 1) b
-grown_down a b z l = record { new = (omega arith, omega arith); out = inl (omega arith); more = λ q x y. (omega arith, y); each = λ q x y. grind arith }
+pub grown_down : (a b p : ℕ) → a ≡ p + 1 → a ≤ b → Grown a b p p b
+grown_down a b p e l = record { new = (omega arith, omega arith); out = inl (omega arith); more = λ q x y. (omega arith, y); each = λ q x y. grind arith }
 
 pub grown_up : (a b : ℕ) → a ≤ b → Grown a b b a (b + 1)
 grown_up a b l = record { new = (l, omega arith); out = inr (omega arith); more = λ q x y. (x, omega arith); each = λ q x y. grind arith }
@@ -156,13 +134,12 @@ module _ {A : Type 0} (op : A → A → A) (n h : ℕ) (t t' : List A) (a b : �
       (cases_eq a b))
 
   -- a left half is computed downwards
-  pub left_step : (x : A) → 0 < a → a ≤ b → b ≤ n → h * n + n ≤ length t' → Left h (a - 1) → (NextHolds op n h (a - 1 + 1) t' → reached op n (take n t') h (a - 1) ≡ Some x)
-      → Redone op Left n h a b (NextHolds op n h b t) t t' → Redone op Left n h (a - 1) b (NextHolds op n h b t) t (set t' (h * n + (a - 1)) x)
-  left_step x z l m room side made r =
+  pub left_step : (p : ℕ) (x : A) → a ≡ p + 1 → a ≤ b → b ≤ n → h * n + n ≤ length t' → Left h p → (NextHolds op n h (p + 1) t' → reached op n (take n t') h p ≡ Some x)
+      → Redone op Left n h a b (NextHolds op n h b t) t t' → Redone op Left n h p b (NextHolds op n h b t) t (set t' (h * n + p) x)
+  left_step p x e l m room side made r =
       let same = redone_items op Left n h (NextHolds op n h b t) t t' {a = a} {b = b} up r in
-      let back : a - 1 + 1 ≡ a = omega arith in
-      redone_more op Left n h (NextHolds op n h b t) t t' a b (a - 1) (a - 1) b x (grown_down a b z l) side (omega arith)
-      (λ s. rw same at (made (rw back (next_holds r l s)))) r
+      redone_more op Left n h (NextHolds op n h b t) t t' a b p p b x (grown_down a b p e l) side (omega arith)
+      (λ s. rw same at (made (rw e at (next_holds r l s)))) r
 
   prior_holds : Redone op Right n h a b (PriorHolds op n h a t) t t' → a ≤ b → PriorHolds op n h a t → PriorHolds op n h b t'
   prior_holds r l s w side =

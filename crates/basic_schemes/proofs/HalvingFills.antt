@@ -7,8 +7,8 @@ use Rattle.semigroup.proofs.Places.{nth_take, take_same}
 use Rattle.semigroup.proofs.Products.{over_one}
 use Rattle.scheme.specs.Table.{Filled}
 use Rattle.basic_schemes.specs.HalvingPlan.{rows, halving_plan}
-use Rattle.basic_schemes.specs.HalvingRows.{Row, Left, Right, RowHolds, Redone, NextHolds, PriorHolds, RowFilled}
-use Rattle.basic_schemes.specs.HalvingLayout.{reach_item, rows_few, row_past, items_before}
+use Rattle.basic_schemes.specs.HalvingRows.{RowFits, Left, Right, RowHolds, Redone, NextHolds, PriorHolds, RowFilled}
+use Rattle.basic_schemes.specs.HalvingLayout.{reach_item, row_past, items_before}
 use Rattle.basic_schemes.proofs.HalvingCells.{redone_items}
 
 -- the rows below h hold their products; the items and the cells from row h on are as they were
@@ -20,21 +20,19 @@ row_end : (n h : ℕ) → (h + 1) * n ≡ h * n + n
 row_end n h = add-mul h 1 n ∙ ap (λ x. h * n + x) (one-mul n)
 
 -- a table with all cells has room for each row
-pub row_fits : (n h room : ℕ) → 0 < n → n ≤ 65536 → 0 < h → h < rows n → n * rows n ≤ room → Row n h room
-row_fits n h room z b up l r =
-    let few = rows_few n z b in
+pub row_fits : (n h room : ℕ) → 0 < h → h < rows n → n * rows n ≤ room → RowFits n h room
+row_fits n h room up l r =
     let f : (h + 1) * n ≤ rows n * n = mul-le (h + 1) n (rows n) n (omega arith) (omega arith) in
-    record { few = b; past = up; low = omega arith; fits = omega (arith, row_end n h, mul_comm n (rows n)) }
+    record { past = up; fits = omega (arith, row_end n h, mul_comm n (rows n)) }
 
 module _ {A : Type 0} (op : A → A → A) (n : ℕ) where
   sides : (h q : ℕ) → Left h q ⊎ Right h q
   sides h q = grind arith
 
   -- both sides of a row
-  pub row_filled : (h a b a' b' : ℕ) (t u v : List A) → 0 < h → Redone op Left n h a b (NextHolds op n h b t) t u → Redone op Right n h a' b' (PriorHolds op n h a' u) u v
-      → a ≡ 0 → b ≡ n → a' ≡ 0 → b' ≡ n → RowFilled op n h t v
-  row_filled h a b a' b' t u v up l r a-is b-is a'-is b'-is =
-      let same = redone_items op Left n h (NextHolds op n h b t) t u {a = a} {b = b} up l in
+  pub row_filled : (h : ℕ) (t u v : List A) → 0 < h → Redone op Left n h 0 n (NextHolds op n h n t) t u → Redone op Right n h 0 n (PriorHolds op n h 0 u) u v → RowFilled op n h t v
+  row_filled h t u v up l r =
+      let same = redone_items op Left n h (NextHolds op n h n t) t u {a = 0} {b = n} up l in
       record {
         holds = λ q m. ⊎_elim
             (λ (s : Left h q). r.kept (h * n + q) (λ z e x y side. let e' : q ≡ z = omega arith in let s' = rw e' at s in omega arith) ∙ l.holds (λ x. absurd (omega arith)) q (omega arith) (omega arith) s)
@@ -53,9 +51,8 @@ module _ {A : Type 0} (op : A → A → A) (n : ℕ) where
   rows_items t = record { holds = λ k q l m. let e : k ≡ 0 = omega arith in rw e (item_holds t q m); kept = λ c w. refl }
 
   -- one row more
-  pub rows_more : (h row : ℕ) (t t' t'' : List A) → 0 < h → Rows op n h t t' → RowFilled op n row t' t'' → row ≡ h → Rows op n (h + 1) t t''
-  rows_more h row t t' t'' up r filled is =
-      let f : RowFilled op n h t' t'' = rw is at filled in
+  pub rows_more : (h : ℕ) (t t' t'' : List A) → 0 < h → Rows op n h t t' → RowFilled op n h t' t'' → Rows op n (h + 1) t t''
+  rows_more h t t' t'' up r f =
       let same : take n t' ≡ take n t = take_same n t' t (λ i l. r.kept i (inl l)) in
       let past = items_before n h up in
       let end = row_end n h in

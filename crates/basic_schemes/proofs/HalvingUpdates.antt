@@ -1,7 +1,7 @@
 -- Which cells an update computes anew, and that it is enough.
-use Rattle.std.proofs.Common.{◌≡◌, ℕ, ◌+◌, ◌-◌, ◌*◌, ◌/◌, ◌%◌, ◌^◌, ◌<◌, ◌≤◌, min, List, length, take, set, sym, refl, ap, ◌∙◌, inl, inr, ⊎_elim, mul_comm, add-mul, one-mul, zero-add, arith}
+use Rattle.std.proofs.Common.{◌≡◌, ℕ, ◌+◌, ◌-◌, ◌*◌, ◌/◌, ◌%◌, ◌^◌, ◌<◌, ◌≤◌, List, length, take, set, sym, refl, ap, ◌∙◌, inl, inr, ⊎_elim, mul_comm, zero-add, arith}
 use Rattle.std.specs.List.{slice_get}
-use Rattle.std.proofs.lemmas.Nat.{pow_pos, shr_split, div_below, le-div, mod_below, div-add-mod'}
+use Rattle.std.proofs.lemmas.Nat.{pow_pos, shr_split, div_below, mod_below, div-add-mod'}
 use Rattle.std.proofs.lemmas.Bool.{cases_eq}
 use Rattle.semigroup.specs.Product.{over}
 use Rattle.semigroup.proofs.Places.{nth_set_same, nth_set_other, take_same}
@@ -10,24 +10,17 @@ use Rattle.scheme.specs.Plan.{Interval, Contains, Misses}
 use Rattle.scheme.specs.Table.{AsBuilt}
 use Rattle.scheme.specs.Calls.{Renewed}
 use Rattle.scheme.proofs.Standing.{in_or_out}
-use Rattle.basic_schemes.specs.HalvingPlan.{start_of_half, reach, rows, halving_plan}
+use Rattle.scheme.specs.Blocks.{start_of_block, end_of_block}
+use Rattle.basic_schemes.specs.HalvingPlan.{reach, rows, halving_plan}
 use Rattle.basic_schemes.specs.HalvingRows.{Left, Right, RowHolds, Redone, NextHolds, PriorHolds, RowRenewed}
-use Rattle.basic_schemes.proofs.Changes.{take_changed, inside_or_not}
+use Rattle.std.proofs.Math.Seq.{take-set-lt}
 use Rattle.basic_schemes.specs.HalvingLayout.{reach_left, reach_right, reach_within, row_past, items_before, cells_enough, cell_below, cell_span, item_span}
-use Rattle.basic_schemes.proofs.HalvingCells.{left_from, right_to, left_to_same, right_from_same}
+use Rattle.basic_schemes.proofs.HalvingCells.{same_half, left_from, right_to, left_to_same, right_from_same}
 use Rattle.basic_schemes.proofs.HalvingFills.{item_holds}
 
 -- ---- halves
 
--- the half of p has no other events than those between its start and its end
-same_half : (h p q : ℕ) → start_of_half h p ≤ q → q < start_of_half h p + 2 ^ h → q / 2 ^ h ≡ p / 2 ^ h
-same_half h p q l m =
-    let end : (p / 2 ^ h + 1) * 2 ^ h ≡ start_of_half h p + 2 ^ h = add-mul (p / 2 ^ h) 1 (2 ^ h) ∙ ap (λ x. start_of_half h p + x) (one-mul (2 ^ h)) in
-    let a = le-div (p / 2 ^ h) q (2 ^ h) (pow_pos h) l in
-    let b = div_below q (2 ^ h) (p / 2 ^ h + 1) (pow_pos h) (omega arith) in
-    omega arith
-
-half_bounds : (h p q : ℕ) → q / 2 ^ h ≡ p / 2 ^ h → (start_of_half h p ≤ q) × (q < start_of_half h p + 2 ^ h)
+half_bounds : (h p q : ℕ) → q / 2 ^ h ≡ p / 2 ^ h → (start_of_block (2 ^ h) p ≤ q) × (q < start_of_block (2 ^ h) p + 2 ^ h)
 half_bounds h p q e =
     let s = shr_split q h in
     let m = mod_below q (2 ^ h) (pow_pos h) in
@@ -62,42 +55,40 @@ right_contains n h p q l s e m =
 
 module _ {A : Type 0} (op : A → A → A) (n p h : ℕ) (t t' : List A) (l : p < n) where
   -- in a left half, the cells from its start up to p
-  pub renewed_left : (a b : ℕ) → Left h p → Redone op Left n h a b (NextHolds op n h b t) t t' → a ≡ start_of_half h p → b ≡ p + 1 → RowRenewed op n p h t t'
-  renewed_left a b side redone a-is b-is =
-      let r : Redone op Left n h (start_of_half h p) (p + 1) (NextHolds op n h (p + 1) t) t t' = rw (a-is, b-is) at redone in
-      let in-half : (q : ℕ) → start_of_half h p ≤ q → q < p + 1 → q / 2 ^ h ≡ p / 2 ^ h = λ q a b. same_half h p q a (let d = half_bounds h p p refl in omega arith) in
+  pub renewed_left : (start : ℕ) → start ≡ start_of_block (2 ^ h) p → Left h p → Redone op Left n h start (p + 1) (NextHolds op n h (p + 1) t) t t' → RowRenewed op n p h t t'
+  renewed_left start is side r =
+      let in-half : (q : ℕ) → start ≤ q → q < p + 1 → q / 2 ^ h ≡ p / 2 ^ h = λ q a b. same_half h p q (omega arith) (let d = half_bounds h p p refl in omega arith) in
       record {
         holds = λ others q m. ⊎_elim
-            (λ (w : (start_of_half h p ≤ q) × (q < p + 1)). r.holds (λ x s. others (p + 1) x (λ has. let f = left_from n h (p + 1) s in omega arith)) q w.0 w.1 (rw (in-half q w.0 w.1) side))
-            (λ (w : (start_of_half h p ≤ q) × (q < p + 1) → ⊥).
-            r.kept (h * n + q) (λ z e a b s. let e' : q ≡ z = omega arith in w (omega arith, omega arith))
+            (λ (w : Contains (record { from = start; to = p + 1 }) q). r.holds (λ x s. others (p + 1) x (λ has. let f = left_from n h (p + 1) s in omega arith)) q w.0 w.1 (rw (in-half q w.0 w.1) side))
+            (λ (w : Misses (record { from = start; to = p + 1 }) q).
+            r.kept (h * n + q) (λ z e a b s. omega arith)
             ∙ others q m (λ has.
             let e = reach_half n h p q m has in
             let s' : Left h q = rw e side in
             let f = left_from n h q s' in
             let d = half_bounds h p q e in
-            w (omega arith, omega arith)))
-            (inside_or_not (start_of_half h p) (p + 1) q);
+            omega arith))
+            (in_or_out (record { from = start; to = p + 1 }) q);
         kept = λ c out. r.kept c (λ q e a b s. out q e (omega arith) (left_contains n h p q l side (in-half q a b) (omega arith)));
       }
 
   -- in a right half, the cells from p up to its end
-  pub renewed_right : (a end : ℕ) → Right h p → Redone op Right n h a end (PriorHolds op n h a t) t t' → a ≡ p → end ≡ min n (start_of_half h p + 2 ^ h) → RowRenewed op n p h t t'
-  renewed_right a end side redone a-is end_is =
-      let r : Redone op Right n h p end (PriorHolds op n h p t) t t' = rw a-is at redone in
+  pub renewed_right : (end : ℕ) → end ≡ end_of_block n (2 ^ h) p → Right h p → Redone op Right n h p end (PriorHolds op n h p t) t t' → RowRenewed op n p h t t'
+  renewed_right end is side r =
       let in-half : (q : ℕ) → p ≤ q → q < end → q / 2 ^ h ≡ p / 2 ^ h = λ q a b. same_half h p q (let d = half_bounds h p p refl in omega arith) (omega arith) in
       record {
         holds = λ others q m. ⊎_elim
-            (λ (w : (p ≤ q) × (q < end)). r.holds (λ x s. others (p - 1) (omega arith) (λ has. let f = right_to n h (p - 1) s in omega arith)) q w.0 w.1 (rw (in-half q w.0 w.1) side))
-            (λ (w : (p ≤ q) × (q < end) → ⊥).
-            r.kept (h * n + q) (λ z e a b s. let e' : q ≡ z = omega arith in w (omega arith, omega arith))
+            (λ (w : Contains (record { from = p; to = end }) q). r.holds (λ x s. others (p - 1) (omega arith) (λ has. let f = right_to n h (p - 1) s in omega arith)) q w.0 w.1 (rw (in-half q w.0 w.1) side))
+            (λ (w : Misses (record { from = p; to = end }) q).
+            r.kept (h * n + q) (λ z e a b s. omega arith)
             ∙ others q m (λ has.
             let e = reach_half n h p q m has in
             let s' : Right h q = rw e side in
             let f = right_to n h q s' in
             let d = half_bounds h p q e in
-            w (omega arith, omega arith)))
-            (inside_or_not p end q);
+            omega arith))
+            (in_or_out (record { from = p; to = end }) q);
         kept = λ c out. r.kept c (λ q e a b s. out q e (omega arith) (right_contains n h p q l side (in-half q a b) a));
       }
 
@@ -120,9 +111,8 @@ module _ {A : Type 0} (op : A → A → A) (n p : ℕ) (l : p < n) where
   renewing_none u = record { holds = λ k a b. absurd (omega arith); kept = λ c out. refl }
 
   -- one row more
-  pub renewing_more : (h event row : ℕ) (u t t' : List A) → 0 < h → Renewing op n p h u t → RowRenewed op n event row t t' → event ≡ p → row ≡ h → Renewing op n p (h + 1) u t'
-  renewing_more h event row u t t' up r renewed event-is row_is =
-      let w : RowRenewed op n p h t t' = rw (event-is, row_is) at renewed in
+  pub renewing_more : (h : ℕ) (u t t' : List A) → 0 < h → Renewing op n p h u t → RowRenewed op n p h t t' → Renewing op n p (h + 1) u t'
+  renewing_more h u t t' up r w =
       let past = items_before n h up in
       let items : take n t ≡ take n u = take_same n t u (λ i m. r.kept i (λ k q a b c e has. omega (arith, items_before n k a))) in
       let fresh : (q : ℕ) → q < n → slice_get t (h * n + q) ≡ slice_get u (h * n + q) = λ q m. r.kept (h * n + q) (λ k z a b c e has. let y = row_past n k h z b c in omega arith) in
@@ -141,7 +131,7 @@ module _ {A : Type 0} (op : A → A → A) (n p : ℕ) (l : p < n) where
   others_hold x t s k q up low m out =
       let past = items_before n k up in
       let was : slice_get t (k * n + q) ≡ over op (take n t) (reach n k q).from (reach n k q).to = rw (zero-add, cell_span n k q m) at (s.holds (k * n + q) (cell_below n k q low m)) in
-      rw (take_changed n t p x) (nth_set_other t p (k * n + q) x (λ e. omega arith) ∙ was
+      rw (take-set-lt n t p x l) (nth_set_other t p (k * n + q) x (λ e. omega arith) ∙ was
       ∙ sym (over_set_out op (take n t) p x (reach n k q).from (reach n k q).to (not_contains (reach n k q) p out)))
 
   module _ (x : A) (t t' : List A) (room : n ≤ length t) (r : Renewing op n p (rows n) (set t p x) t') where
@@ -164,7 +154,7 @@ module _ {A : Type 0} (op : A → A → A) (n p : ℕ) (l : p < n) where
       containing = λ c m inside s.
           let at = div-add-mod' c n in
           let low = div_below c n (rows n) (omega arith) (rw mul_comm m) in
-          rw (← take_changed n t p x) (ap (slice_get t') (sym at) ∙ all_hold s (c / n) (c % n) low (mod_below c n (omega arith)));
+          rw (← take-set-lt n t p x l) (ap (slice_get t') (sym at) ∙ all_hold s (c / n) (c % n) low (mod_below c n (omega arith)));
       missing = λ c m outside. kept_apart c
           (λ k q a y z e has. misses_not _ p outside (rw (e, cell_span n k q z) has))
           (λ e. misses_not _ p outside (rw (e, item_span n p l) (omega arith, omega arith)));

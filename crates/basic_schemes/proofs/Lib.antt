@@ -1,4 +1,3 @@
-pub mod Changes
 pub mod FlatFills
 pub mod FlatUpdates
 pub mod FlatQueries

@@ -2,14 +2,7 @@
 use Rattle.std.specs.Prelude.{◌≡◌, ℕ, ◌+◌, ◌-◌, ◌<◌, ◌≤◌, List, take}
 use Rattle.std.specs.List.{slice_get}
 use Rattle.semigroup.specs.Product.{over}
-use Rattle.basic_schemes.specs.FlatPlan.{row_start, flat_plan}
-
--- row g, past the items, of a table of n events with room for all cells
-pub record Row (n g room : ℕ) : Type 0 where
-  pub few : n ≤ 65536
-  pub past : 0 < g
-  pub low : g < n
-  pub fits : (flat_plan.part n).size ≤ room
+use Rattle.basic_schemes.specs.FlatPlan.{row_start}
 
 -- row g's cell for i holds the product of the run from i to i + g
 abbrev pub RowHolds : {A : Type 0} (op : A → A → A) (n : ℕ) (items t : List A) (g i : ℕ) → Type 0

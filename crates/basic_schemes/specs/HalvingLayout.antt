@@ -1,39 +1,20 @@
 -- Rows, halves and intervals of a table of halved blocks, and that its plan is sound.
-use Rattle.std.specs.Prelude.{◌≡◌, ℕ, zero, suc, ◌+◌, ◌-◌, ◌*◌, ◌/◌, ◌%◌, ◌^◌, ◌<◌, ◌≤◌, min, [], ◌∷◌, ◌≢◌, bit_xor}
-use Rattle.std.proofs.Common.{sym, ap, ◌∙◌, ⊎_elim, arith, pow-suc, mod-eq_of_lt, le_of_lt, add-mul, one-mul, add-one, pow_mono}
+use Rattle.std.specs.Prelude.{◌≡◌, ℕ, suc, ◌+◌, ◌-◌, ◌*◌, ◌/◌, ◌%◌, ◌^◌, ◌<◌, ◌≤◌, [], ◌∷◌, ◌≢◌, bit_xor}
+use Rattle.std.proofs.Common.{sym, ap, ◌∙◌, ⊎_elim, arith, mod-eq_of_lt, le_of_lt, add-mul, one-mul, add-one}
 use Rattle.std.proofs.Math.Nat.{div-eq_of_lt}
 use Rattle.std.specs.Int.Bits.{xor_self, xor_assoc, xor_zero_r, xor_zero_l}
 use Rattle.std.specs.Int.Count.{count_leading_zeros}
 use Rattle.std.proofs.Math.Pow.{shr_mono}
-use Rattle.std.proofs.lemmas.Nat.{pow_pos, shr-shr, shr_split, div-mul-add, mod-mul-add, le-div, mul-add-lt, mod_below, mul-le, xor_shr, xor_lt, leading_top, leading_length}
-use Rattle.std.proofs.lemmas.Bool.{eq-eqb, ne_eqb, cases_eq, cases_lt, cond-true, cond-false}
+use Rattle.std.proofs.lemmas.Nat.{pow_pos, shr-shr, shr_split, div-mul-add, mod-mul-add, le-div, mul-add-lt, mod_below, mul-le, xor_shr, xor_lt, leading_top}
+use Rattle.std.proofs.lemmas.Bool.{eq-eqb, ne_eqb, cases_eq, cond-true, cond-false}
 use Rattle.scheme.specs.Plan.{Covers, done, goes, Sound, single}
-use Rattle.basic_schemes.specs.HalvingPlan.{digits, exponent, LeastExponent, rows, Parted, start_of_half, reach, row_of_parting, end_cells, halving_plan}
-
--- ---- binary digits
-
-digits_hold : (a : ℕ) → a < 2 ^ 32 → a < 2 ^ digits a
-digits_hold a h = let t = leading_length 32 a h in let e : digits a ≡ t.0 = omega (arith, t.1) in rw e t.2
-
-digits_least : (a m : ℕ) → a < 2 ^ 32 → a < 2 ^ m → digits a ≤ m
-digits_least a m h l =
-    let t = leading_length 32 a h in
-    let e : digits a ≡ t.0 = omega (arith, t.1) in
-    ⊎_elim
-    (λ (g : m < digits a).
-    let more : suc m ≤ t.0 = omega arith in
-    absurd (omega (arith, t.3, pow_mono more, pow-suc 2 m)))
-    (λ (g : digits a ≤ m). g)
-    (cases_lt m (digits a))
-
-pub exponent_least : (n : ℕ) → 0 < n → n ≤ 2 ^ 32 → LeastExponent n (exponent n)
-exponent_least n z b = record {
-  enough = omega (arith, digits_hold (n - 1) (omega arith));
-  least = λ m l. digits_least (n - 1) m (omega arith) (omega arith);
-}
+use Rattle.scheme.specs.Blocks.{start_of_block, end_of_block}
+use Rattle.scheme.specs.Exponent.{exponent}
+use Rattle.scheme.proofs.Exponents.{digits_hold, digits_least, exponent_few, exponent_falls}
+use Rattle.basic_schemes.specs.HalvingPlan.{rows, Parted, reach, row_of_parting, end_cells, halving_plan}
 
 pub rows_few : (n : ℕ) → 0 < n → n ≤ 65536 → rows n ≤ 16
-rows_few n z b = omega (arith, digits_least (n - 1) 16 (omega arith) (omega arith))
+rows_few n z b = omega (arith, exponent_few n b)
 
 -- ---- where two events part
 
@@ -75,11 +56,11 @@ parting_row_below n i j b l m =
 
 -- ---- intervals
 
-pub reach_left : (n h p : ℕ) → p / 2 ^ h % 2 ≡ 0 → reach n h p ≡ record { from = p; to = min n (start_of_half h p + 2 ^ h) }
+pub reach_left : (n h p : ℕ) → p / 2 ^ h % 2 ≡ 0 → reach n h p ≡ record { from = p; to = end_of_block n (2 ^ h) p }
 unfolding reach
 reach_left n h p e = cond-true _ _ _ (eq-eqb _ _ e)
 
-pub reach_right : (n h p : ℕ) → (p / 2 ^ h % 2 ≢ 0) → reach n h p ≡ record { from = start_of_half h p; to = p + 1 }
+pub reach_right : (n h p : ℕ) → (p / 2 ^ h % 2 ≢ 0) → reach n h p ≡ record { from = start_of_block (2 ^ h) p; to = p + 1 }
 unfolding reach
 reach_right n h p e = cond-false _ _ _ (ne_eqb _ _ e)
 
@@ -132,16 +113,16 @@ item_span n q l = rw (div-eq_of_lt l, mod-eq_of_lt l) (reach_item n q l)
 -- ---- the cells of two events that part
 
 -- the half of j begins where that of i ends
-half_next : (i j h : ℕ) → Parted i j h → start_of_half h j ≡ start_of_half h i + 2 ^ h
-half_next i j h p = ap (λ x. x * 2 ^ h) p.next ∙ add-mul (i / 2 ^ h) 1 (2 ^ h) ∙ ap (λ x. start_of_half h i + x) (one-mul (2 ^ h))
+half_next : (i j h : ℕ) → Parted i j h → start_of_block (2 ^ h) j ≡ start_of_block (2 ^ h) i + 2 ^ h
+half_next i j h p = ap (λ x. x * 2 ^ h) p.next ∙ add-mul (i / 2 ^ h) 1 (2 ^ h) ∙ ap (λ x. start_of_block (2 ^ h) i + x) (one-mul (2 ^ h))
 
-pub left_span : (n i j : ℕ) → n ≤ 65536 → i < j → j < n → (halving_plan.part n).span (row_of_parting i j * n + i) ≡ record { from = i; to = start_of_half (row_of_parting i j) j }
+pub left_span : (n i j : ℕ) → n ≤ 65536 → i < j → j < n → (halving_plan.part n).span (row_of_parting i j * n + i) ≡ record { from = i; to = start_of_block (2 ^ (row_of_parting i j)) j }
 left_span n i j b l m =
     let h = row_of_parting i j in
     let p = parted i j l (omega arith) in
     cell_span n h i (omega arith) ∙ reach_left n h i p.left ∙ ap (λ x. record { from = i; to = x }) (omega (arith, half_next i j h p, shr_split j h))
 
-pub right_span : (n i j : ℕ) → n ≤ 65536 → i < j → j < n → (halving_plan.part n).span (row_of_parting i j * n + j) ≡ record { from = start_of_half (row_of_parting i j) j; to = j + 1 }
+pub right_span : (n i j : ℕ) → n ≤ 65536 → i < j → j < n → (halving_plan.part n).span (row_of_parting i j * n + j) ≡ record { from = start_of_block (2 ^ (row_of_parting i j)) j; to = j + 1 }
 right_span n i j b l m =
     let h = row_of_parting i j in
     let p = parted i j l (omega arith) in
@@ -149,7 +130,7 @@ right_span n i j b l m =
     cell_span n h j m ∙ reach_right n h j right
 
 -- some event stands before the half of j
-pub half_past : (i j : ℕ) → i < j → j < 2 ^ 32 → 0 < start_of_half (row_of_parting i j) j
+pub half_past : (i j : ℕ) → i < j → j < 2 ^ 32 → 0 < start_of_block (2 ^ row_of_parting i j) j
 half_past i j l b =
     let h = row_of_parting i j in
     let p = parted i j l b in
@@ -187,10 +168,6 @@ run_covered n i j b l m =
 
 -- ---- the plan is sound
 
-below_power : (k : ℕ) → k < 2 ^ k
-below_power zero = omega arith
-below_power (suc k) = omega (arith, below_power k, pow-suc 2 k)
-
 pub halving_sound : Sound halving_plan
 halving_sound = record {
   enough = λ n z b. cells_enough n;
@@ -201,5 +178,5 @@ halving_sound = record {
       (λ (e : i ≡ j - 1). rw (one_cell n i (j - 1) e) (omega arith))
       (λ (e : i ≡ j - 1 → ⊥). rw (two_cells n i (j - 1) e) (omega arith))
       (cases_eq i (j - 1));
-  falls = λ e z b. omega (arith, digits_least (e - 1) (e - 1) (omega arith) (below_power (e - 1)));
+  falls = λ e z b. exponent_falls e z (omega arith);
 }

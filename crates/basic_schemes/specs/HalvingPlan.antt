@@ -1,30 +1,14 @@
 -- The plan of a table of halved blocks. Row h, from 0, cuts the events into blocks of 2^(h+1), and each block into a left and a
 -- right half of 2^h. The row has a cell for each event: in a left half it reaches from the event to the half's end, in a right
 -- half from the half's start to the event. So where two events are in the two halves of one block, their cells meet.
-use Rattle.std.specs.Prelude.{◌≡◌, ℕ, ◌+◌, ◌-◌, ◌*◌, ◌/◌, ◌%◌, ◌^◌, ◌≤◌, min, max, Bool, cond, List, [], ◌∷◌, ◌==◌, bit_xor}
-use Rattle.std.specs.Int.Count.{count_leading_zeros}
+use Rattle.std.specs.Prelude.{◌≡◌, ℕ, ◌+◌, ◌-◌, ◌*◌, ◌/◌, ◌%◌, ◌^◌, max, Bool, cond, List, [], ◌∷◌, ◌==◌, bit_xor}
 use Rattle.scheme.specs.Plan.{Plan, Interval}
-
--- how many binary digits a number below 2^32 has; 0 has none
-abbrev pub digits : ℕ → ℕ
-digits a = 32 - count_leading_zeros 32 a
-
--- the least exponent whose power of two is n or more
-abbrev pub exponent : ℕ → ℕ
-exponent n = digits (n - 1)
-
--- 2^e is n or more, and no lower power of two is
-pub record LeastExponent (n e : ℕ) : Type 0 where
-  pub enough : n ≤ 2 ^ e
-  pub least : (m : ℕ) → n ≤ 2 ^ m → e ≤ m
+use Rattle.scheme.specs.Blocks.{start_of_block, end_of_block}
+use Rattle.scheme.specs.Exponent.{digits, exponent}
 
 -- how many rows a table of n events has
 abbrev pub rows : ℕ → ℕ
 rows n = max 1 (exponent n)
-
--- where the half of row h begins that p is in
-abbrev pub start_of_half : ℕ → ℕ → ℕ
-start_of_half h p = p / 2 ^ h * 2 ^ h
 
 -- is p in a left half of row h?
 abbrev pub on_left : ℕ → ℕ → Bool
@@ -33,8 +17,8 @@ on_left h p = p / 2 ^ h % 2 == 0
 -- the interval of row h's cell for p, over n events
 unfoldable pub reach : ℕ → ℕ → ℕ → Interval
 reach n h p = cond (on_left h p)
-    (record { from = p; to = min n (start_of_half h p + 2 ^ h) })
-    (record { from = start_of_half h p; to = p + 1 })
+    (record { from = p; to = end_of_block n (2 ^ h) p })
+    (record { from = start_of_block (2 ^ h) p; to = p + 1 })
 
 -- the row in which i and j are in the two halves of one block: the place, from 0, of the highest binary digit in which they differ
 abbrev pub row_of_parting : ℕ → ℕ → ℕ

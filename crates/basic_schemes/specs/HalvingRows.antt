@@ -5,11 +5,9 @@ use Rattle.semigroup.specs.Product.{over}
 use Rattle.scheme.specs.Plan.{Contains}
 use Rattle.basic_schemes.specs.HalvingPlan.{reach}
 
--- row h, past the items, of a table of n events that has room for it
-pub record Row (n h room : ℕ) : Type 0 where
-  pub few : n ≤ 65536
+-- row h of a table of n events is past the items, and the table has room for it
+pub record RowFits (n h room : ℕ) : Type 0 where
   pub past : 0 < h
-  pub low : h < 32
   pub fits : h * n + n ≤ room
 
 -- q is in a left half of row h

@@ -2,14 +2,18 @@
 //!
 //! Row g, from 0, has the runs of g + 1 events, one for each first event; row 0 is the items. A query reads one cell, and
 //! each cell past the items is one combination: the run without its last event, and that event.
+//!
+//! The loops go over numbers of rows and events: a cell is made of two others of the same table, which an iterator over the table
+//! would hold.
 
-ghost use Rattle.std.specs.Prelude.{◌≡◌, ◌+◌, ◌^◌, ◌<◌, ◌≤◌, length};
+ghost use Rattle.std.specs.Prelude.{◌≡◌, ◌+◌, ◌-◌, ◌<◌, ◌≤◌, length};
 ghost use Rattle.basic_schemes.specs.FlatPlan.{row_start, flat_plan};
-ghost use Rattle.basic_schemes.specs.FlatRows.{Row, Redone};
+ghost use Rattle.basic_schemes.specs.FlatRows.{Redone};
 ghost use Rattle.basic_schemes.specs.FlatLayout.{flat_sound};
 
-use scheme::{Answer, CellNo, EventNo, Piece, Scheme};
+use scheme::{Answer, CellNo, EventCount, EventNo, EventRun, ParentExponent, Piece, Scheme};
 use semigroup::Semigroup;
+use std::ops::Range;
 
 /// The scheme of every run.
 #[derive(Clone, Copy)]
@@ -20,42 +24,35 @@ impl Scheme for Flat {
 
     ghost sound = { λ s. flat_sound };
 
-    fn child_exponent(&self, e: u32) -> u32 {
-        e / 2
+    fn child_exponent(&self, parents: ParentExponent) -> u32 {
+        parents.blocks.e / 2
     }
 
     fn budget(&self) -> u64 {
         1
     }
 
-    fn cells(&self, n: u32) -> u64 {
-        n as u64 * (n as u64 + 1) / 2
+    fn cells(&self, events: EventCount) -> u64 {
+        let n = u64::from(events.count);
+        n * (n + 1) / 2
     }
 
-    fn piece_count(&self, _n: u32, _i: EventNo, _j: EventNo) -> u32 {
+    fn piece_count(&self, _run: EventRun) -> u32 {
         1
     }
 
-    fn fill<T: Semigroup>(&self, n: u32, table: &mut [T]) {
-        let n = n as usize;
-        for gap in 1..n {
-            refresh(n, table, gap, 0, n - gap);
+    fn fill<T: Semigroup>(&self, events: EventCount, table: &mut [T]) {
+        for gap in 1..events.count {
+            refresh(events, table, gap, 0..events.count - gap);
         }
     }
 
-    fn query<T: Semigroup>(
-        &self,
-        n: u32,
-        table: &[T],
-        i: EventNo,
-        j: EventNo,
-        trace: &mut [Piece],
-    ) -> Answer<T> {
-        let cell = cell_of(n as usize, (j.0 - i.0) as usize, i.0 as usize);
+    fn query<T: Semigroup>(&self, table: &[T], run: EventRun, trace: &mut [Piece]) -> Answer<T> {
+        let cell = cell_of(run);
         trace[0] = Piece {
             cell: CellNo(cell as u64),
-            first: i,
-            last: j,
+            first: run.first,
+            last: run.last,
         };
         Answer {
             value: table[cell],
@@ -63,37 +60,49 @@ impl Scheme for Flat {
         }
     }
 
-    fn update<T: Semigroup>(&self, n: u32, table: &mut [T], p: EventNo, element: T) {
-        let n = n as usize;
-        let p = p.0 as usize;
-        table[p] = element;
-        for gap in 1..n {
-            refresh(n, table, gap, p.saturating_sub(gap), (p + 1).min(n - gap));
+    fn update<T: Semigroup>(&self, events: EventCount, table: &mut [T], p: EventNo, element: T) {
+        let EventNo(p) = p;
+        table[p as usize] = element;
+        for gap in 1..events.count {
+            let firsts = p.saturating_sub(gap)..(p + 1).min(events.count - gap);
+            refresh(events, table, gap, firsts);
         }
     }
 }
 
-// The cell of the run from `first` to `first + gap`.
-fn cell_of(n: usize, gap: usize, first: usize) -> usize
-    requires { (n ≤ 65536) × (gap + first < n) }
-    ensures place { result ≡ row_start n gap + first }
-    ensures below { result < (flat_plan.part n).size }
+// The cell of a run.
+fn cell_of(run: EventRun) -> usize
+    ensures place { result ≡ row_start run.events.count (run.last.0 - run.first.0) + run.first.0 }
+    ensures below { result < (flat_plan.part run.events.count).size }
 {
-    if gap == 0 {
+    let first = run.first.0 as usize;
+    if run.first == run.last {
         return first;
     }
-    gap * n - gap * (gap - 1) / 2 + first
+    let gap = run.last.0 as usize - first;
+    gap * run.events.count as usize - gap * (gap - 1) / 2 + first
 }
 
-// Computes row `gap`'s cells for the first events from `start` up to `end`, each from the row before.
-fn refresh<T: Semigroup>(n: usize, table: &mut [T], gap: usize, start: usize, end: usize)
-    requires row { Row n gap (length table.old) }
-    requires range { (start ≤ end) × (end + gap ≤ n) }
-    ensures redone { Redone T.Semigroup.op n gap start end table.old table.new }
+// Computes the cells of row `gap` for some first events, each from the row before.
+fn refresh<T: Semigroup>(events: EventCount, table: &mut [T], gap: u32, firsts: Range<u32>)
+    requires past { 0 < gap }
+    requires room { (flat_plan.part events.count).size ≤ length table.old }
+    requires range { (firsts.start ≤ firsts.end) × (firsts.end + gap ≤ events.count) }
+    ensures redone { Redone T.Semigroup.op events.count gap firsts.start firsts.end table.old table.new }
 {
-    for first in start..end {
-        let shorter = table[cell_of(n, gap - 1, first)];
-        let last = table[first + gap];
-        table[cell_of(n, gap, first)] = shorter.combine(last);
+    for first in firsts {
+        let last = first + gap;
+        let shorter = EventRun {
+            events,
+            first: EventNo(first),
+            last: EventNo(last - 1),
+        };
+        let run = EventRun {
+            events,
+            first: EventNo(first),
+            last: EventNo(last),
+        };
+        let made = table[cell_of(shorter)].combine(table[last as usize]);
+        table[cell_of(run)] = made;
     }
 }

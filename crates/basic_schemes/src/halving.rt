@@ -4,15 +4,22 @@
 //! In a left half an event's cell reaches from it to the half's end, in a right half from the half's start to it, so a query
 //! reads the two cells that meet between its first and its last event. Past the items a cell is its item, or one combination
 //! of the item with the cell beside it.
+//!
+//! The loops go over numbers of rows and events: a cell is made of two others of the same table, which an iterator over the table
+//! would hold.
 
-ghost use Rattle.std.specs.Prelude.{◌≡◌, ◌+◌, ◌*◌, ◌<◌, ◌≤◌, length, take, Some};
+ghost use Rattle.std.specs.Prelude.{◌≡◌, ◌+◌, ◌*◌, ◌<◌, ◌≤◌, IsTrue, IsFalse, length, take, Some};
 ghost use Rattle.scheme.specs.Calls.{piece_of};
-ghost use Rattle.basic_schemes.specs.HalvingPlan.{exponent, LeastExponent, rows, start_of_half, row_of_parting, Parted, halving_plan};
-ghost use Rattle.basic_schemes.specs.HalvingRows.{Row, Left, Right, reached, NextHolds, PriorHolds, Redone, RowFilled, RowRenewed};
+ghost use Rattle.basic_schemes.specs.HalvingPlan.{rows, row_of_parting, Parted, halving_plan};
+ghost use Rattle.basic_schemes.specs.HalvingRows.{RowFits, Left, Right, reached, NextHolds, PriorHolds, Redone, RowFilled, RowRenewed};
 ghost use Rattle.basic_schemes.specs.HalvingLayout.{halving_sound};
 
-use scheme::{Answer, CellNo, EventNo, Piece, Scheme};
+use scheme::{
+    Answer, BlockExponent, CellNo, EventCount, EventNo, EventRun, ParentExponent, Piece, Scheme,
+    exponent_of,
+};
 use semigroup::Semigroup;
+use std::ops::Range;
 
 /// The scheme of halved blocks.
 #[derive(Clone, Copy)]
@@ -23,48 +30,45 @@ impl Scheme for Halving {
 
     ghost sound = { λ s. halving_sound };
 
-    fn child_exponent(&self, e: u32) -> u32 {
-        exponent_of(e)
+    fn child_exponent(&self, parents: ParentExponent) -> u32 {
+        exponent_of(parents.blocks.e)
     }
 
     fn budget(&self) -> u64 {
         2
     }
 
-    fn cells(&self, n: u32) -> u64 {
-        n as u64 * row_count(n) as u64
+    fn cells(&self, events: EventCount) -> u64 {
+        u64::from(events.count) * u64::from(row_count(events))
     }
 
-    fn piece_count(&self, _n: u32, i: EventNo, j: EventNo) -> u32 {
-        if i.0 == j.0 { 1 } else { 2 }
+    fn piece_count(&self, run: EventRun) -> u32 {
+        if run.first == run.last { 1 } else { 2 }
     }
 
-    fn fill<T: Semigroup>(&self, n: u32, table: &mut [T]) {
-        for row in 1..row_count(n) {
-            fill_row(n as usize, table, row);
+    fn fill<T: Semigroup>(&self, events: EventCount, table: &mut [T]) {
+        for h in 1..row_count(events) {
+            let row = Row {
+                events,
+                halves: BlockExponent { e: h },
+            };
+            row.fill(table);
         }
     }
 
-    fn query<T: Semigroup>(
-        &self,
-        n: u32,
-        table: &[T],
-        i: EventNo,
-        j: EventNo,
-        trace: &mut [Piece],
-    ) -> Answer<T> {
-        if i.0 == j.0 {
+    fn query<T: Semigroup>(&self, table: &[T], run: EventRun, trace: &mut [Piece]) -> Answer<T> {
+        if run.first == run.last {
             trace[0] = Piece {
-                cell: CellNo(i.0 as u64),
-                first: i,
-                last: i,
+                cell: CellNo(u64::from(run.first.0)),
+                first: run.first,
+                last: run.last,
             };
             return Answer {
-                value: table[i.0 as usize],
+                value: table[run.first.0 as usize],
                 combinations: 0,
             };
         }
-        let (first, second) = end_pieces(n, i, j);
+        let (first, second) = end_pieces(run);
         trace[0] = first;
         trace[1] = second;
         let value = table[first.cell.0 as usize].combine(table[second.cell.0 as usize]);
@@ -74,159 +78,169 @@ impl Scheme for Halving {
         }
     }
 
-    fn update<T: Semigroup>(&self, n: u32, table: &mut [T], p: EventNo, element: T) {
-        let rows = row_count(n);
+    fn update<T: Semigroup>(&self, events: EventCount, table: &mut [T], p: EventNo, element: T) {
+        let rows = row_count(events);
         let p = p.0 as usize;
         table[p] = element;
-        for row in 1..rows {
-            renew_row(n as usize, table, row, p);
+        for h in 1..rows {
+            let row = Row {
+                events,
+                halves: BlockExponent { e: h },
+            };
+            row.renew(table, p);
         }
     }
 }
 
-// The least exponent whose power of two is n or more.
-fn exponent_of(n: u32) -> u32
-    requires { 0 < n }
-    ensures value { result ≡ exponent n }
-    ensures least { LeastExponent n result }
+// The number of rows of a table.
+fn row_count(events: EventCount) -> u32
+    ensures value { result ≡ rows events.count }
+    ensures few { result ≤ 16 }
 {
-    32 - (n - 1).leading_zeros()
+    exponent_of(events.count).max(1)
 }
 
-// The number of rows of a table of n events.
-fn row_count(n: u32) -> u32
-    requires { 0 < n }
-    ensures { result ≡ rows n }
+// The pieces of a run of two events or more: the cells of its first and its last event that meet between them.
+fn end_pieces(run: EventRun) -> (Piece, Piece)
+    requires { run.first.0 < run.last.0 }
+    ensures left { result.0 ≡ piece_of (halving_plan.part run.events.count) (row_of_parting run.first.0 run.last.0 * run.events.count + run.first.0) }
+    ensures right { result.1 ≡ piece_of (halving_plan.part run.events.count) (row_of_parting run.first.0 run.last.0 * run.events.count + run.last.0) }
+    ensures below { (result.0.cell.0 < (halving_plan.part run.events.count).size) × (result.1.cell.0 < (halving_plan.part run.events.count).size) }
 {
-    exponent_of(n).max(1)
-}
-
-// The row in which i and j are in the two halves of one block.
-fn parting_row(i: u32, j: u32) -> u32
-    requires { i < j }
-    ensures value { result ≡ row_of_parting i j }
-    ensures parted { Parted i j result }
-{
-    31 - (i ^ j).leading_zeros()
-}
-
-// Where the half of a row begins that p is in.
-fn half_start(row: u32, p: usize) -> usize
-    requires { row < 32 }
-    ensures value { result ≡ start_of_half row p }
-    ensures within { result ≤ p }
-{
-    (p >> row) << row
-}
-
-// The place of a row's cell for p.
-fn cell_of(n: usize, row: u32, p: usize) -> usize
-    requires { (n ≤ 65536) × ((row < 32) × (p < n)) }
-    ensures { result ≡ row * n + p }
-{
-    row as usize * n + p
-}
-
-// The pieces of the run from i to j: the cells of i and of j that meet between them.
-fn end_pieces(n: u32, i: EventNo, j: EventNo) -> (Piece, Piece)
-    requires { (n ≤ 65536) × ((i.0 < j.0) × (j.0 < n)) }
-    ensures left { result.0 ≡ piece_of (halving_plan.part n) (row_of_parting i.0 j.0 * n + i.0) }
-    ensures right { result.1 ≡ piece_of (halving_plan.part n) (row_of_parting i.0 j.0 * n + j.0) }
-    ensures below { (result.0.cell.0 < (halving_plan.part n).size) × (result.1.cell.0 < (halving_plan.part n).size) }
-{
-    let row = parting_row(i.0, j.0);
-    let middle = half_start(row, j.0 as usize) as u32;
+    let row = Row::of_parting(run);
+    let middle = row.halves.start(run.last.0 as usize) as u32;
     let left = Piece {
-        cell: CellNo(cell_of(n as usize, row, i.0 as usize) as u64),
-        first: i,
+        cell: CellNo(row.cell_of(run.first.0 as usize) as u64),
+        first: run.first,
         last: EventNo(middle - 1),
     };
     let right = Piece {
-        cell: CellNo(cell_of(n as usize, row, j.0 as usize) as u64),
+        cell: CellNo(row.cell_of(run.last.0 as usize) as u64),
         first: EventNo(middle),
-        last: j,
+        last: run.last,
     };
     (left, right)
 }
 
-// A row's cell for p of a left half: the item, and the cell of the event after it if that is in the half.
-fn left_cell<T: Semigroup>(n: usize, table: &[T], row: u32, p: usize) -> T
-    requires row { Row n row (length table.now) }
-    requires event { (p < n) × (Left row p) }
-    ensures { NextHolds T.Semigroup.op n row (p + 1) table.now → reached T.Semigroup.op n (take n table.now) row p ≡ Some result }
-{
-    let item = table[p];
-    let next = p + 1;
-    if next == n {
-        return item;
-    }
-    if p >> row != next >> row {
-        return item;
-    }
-    item.combine(table[cell_of(n, row, next)])
+// Row h: the events in halves of 2^h, with a cell for each event.
+//
+// Left halves are computed downwards, each item before the cell that follows it, and right halves upwards, each item after
+// the cell before it: one function for both would take the order, the neighbour and the sides as parameters. A layer of blocks
+// makes its suffix and prefix cells alike; what two crates share is public, and a public call may not require room in a table.
+#[derive(Clone, Copy)]
+struct Row {
+    events: EventCount,
+    halves: BlockExponent,
 }
 
-// A row's cell for p of a right half: the cell of the event before it if that is in the half, and the item.
-fn right_cell<T: Semigroup>(n: usize, table: &[T], row: u32, p: usize) -> T
-    requires row { Row n row (length table.now) }
-    requires event { (p < n) × (Right row p) }
-    ensures { PriorHolds T.Semigroup.op n row p table.now → reached T.Semigroup.op n (take n table.now) row p ≡ Some result }
-{
-    let item = table[p];
-    let prior = p - 1;
-    if prior >> row != p >> row {
-        return item;
-    }
-    table[cell_of(n, row, prior)].combine(item)
-}
-
-// Computes a row's cells of left halves for the events from `start` up to `end`, the last first.
-fn refresh_left<T: Semigroup>(n: usize, table: &mut [T], row: u32, start: usize, end: usize)
-    requires row { Row n row (length table.old) }
-    requires range { (start ≤ end) × (end ≤ n) }
-    ensures { Redone T.Semigroup.op Left n row start end (NextHolds T.Semigroup.op n row end table.old) table.old table.new }
-{
-    for p in (start..end).rev() {
-        if (p >> row) % 2 == 0 {
-            let made = left_cell(n, table, row, p);
-            table[cell_of(n, row, p)] = made;
+impl Row {
+    // The row in which the first and the last event of a run are in the two halves of one block.
+    fn of_parting(run: EventRun) -> Row
+        requires { run.first.0 < run.last.0 }
+        ensures events { result.events ≡ run.events }
+        ensures value { result.halves.e ≡ row_of_parting run.first.0 run.last.0 }
+        ensures parted { Parted run.first.0 run.last.0 result.halves.e }
+    {
+        let differing = run.first.0 ^ run.last.0;
+        Row {
+            events: run.events,
+            halves: BlockExponent {
+                e: 31 - differing.leading_zeros(),
+            },
         }
     }
-}
 
-// Computes a row's cells of right halves for the events from `start` up to `end`, the first first.
-fn refresh_right<T: Semigroup>(n: usize, table: &mut [T], row: u32, start: usize, end: usize)
-    requires row { Row n row (length table.old) }
-    requires range { (start ≤ end) × (end ≤ n) }
-    ensures { Redone T.Semigroup.op Right n row start end (PriorHolds T.Semigroup.op n row start table.old) table.old table.new }
-{
-    for p in start..end {
-        if (p >> row) % 2 == 1 {
-            let made = right_cell(n, table, row, p);
-            table[cell_of(n, row, p)] = made;
+    // The place of the cell for p.
+    fn cell_of(self, p: usize) -> usize
+        requires { p < self.events.count }
+        ensures { result ≡ self.halves.e * self.events.count + p }
+    {
+        self.halves.e as usize * self.events.count as usize + p
+    }
+
+    // Whether p is in a left half.
+    fn is_left(self, p: usize) -> bool
+        ensures left { IsTrue result → Left self.halves.e p }
+        ensures right { IsFalse result → Right self.halves.e p }
+    {
+        (p >> self.halves.e) % 2 == 0
+    }
+
+    // The cell for p of a left half: the item, and the cell of the event after it if that is in the half.
+    fn left_cell<T: Semigroup>(self, table: &[T], p: usize) -> T
+        requires row { RowFits self.events.count self.halves.e (length table.now) }
+        requires event { (p < self.events.count) × (Left self.halves.e p) }
+        ensures { NextHolds T.Semigroup.op self.events.count self.halves.e (p + 1) table.now → reached T.Semigroup.op self.events.count (take self.events.count table.now) self.halves.e p ≡ Some result }
+    {
+        let item = table[p];
+        let next = p + 1;
+        if next == self.halves.end(self.events, p) {
+            return item;
+        }
+        item.combine(table[self.cell_of(next)])
+    }
+
+    // The cell for p of a right half: the cell of the event before it if that is in the half, and the item.
+    fn right_cell<T: Semigroup>(self, table: &[T], p: usize) -> T
+        requires row { RowFits self.events.count self.halves.e (length table.now) }
+        requires event { (p < self.events.count) × (Right self.halves.e p) }
+        ensures { PriorHolds T.Semigroup.op self.events.count self.halves.e p table.now → reached T.Semigroup.op self.events.count (take self.events.count table.now) self.halves.e p ≡ Some result }
+    {
+        let item = table[p];
+        if p == self.halves.start(p) {
+            return item;
+        }
+        table[self.cell_of(p - 1)].combine(item)
+    }
+
+    // Computes the cells of left halves for the events of a range, the last first.
+    fn refresh_left<T: Semigroup>(self, table: &mut [T], range: Range<usize>)
+        requires row { RowFits self.events.count self.halves.e (length table.old) }
+        requires range { (range.start ≤ range.end) × (range.end ≤ self.events.count) }
+        ensures { Redone T.Semigroup.op Left self.events.count self.halves.e range.start range.end (NextHolds T.Semigroup.op self.events.count self.halves.e range.end table.old) table.old table.new }
+    {
+        for p in range.rev() {
+            if self.is_left(p) {
+                let made = self.left_cell(table, p);
+                table[self.cell_of(p)] = made;
+            }
         }
     }
-}
 
-// Computes all cells of a row.
-fn fill_row<T: Semigroup>(n: usize, table: &mut [T], row: u32)
-    requires { Row n row (length table.old) }
-    ensures { RowFilled T.Semigroup.op n row table.old table.new }
-{
-    refresh_left(n, table, row, 0, n);
-    refresh_right(n, table, row, 0, n);
-}
+    // Computes the cells of right halves for the events of a range, the first first.
+    fn refresh_right<T: Semigroup>(self, table: &mut [T], range: Range<usize>)
+        requires row { RowFits self.events.count self.halves.e (length table.old) }
+        requires range { (range.start ≤ range.end) × (range.end ≤ self.events.count) }
+        ensures { Redone T.Semigroup.op Right self.events.count self.halves.e range.start range.end (PriorHolds T.Semigroup.op self.events.count self.halves.e range.start table.old) table.old table.new }
+    {
+        for p in range {
+            if !self.is_left(p) {
+                let made = self.right_cell(table, p);
+                table[self.cell_of(p)] = made;
+            }
+        }
+    }
 
-// Computes a row's cells that reach over p: of p's half, those up to p if it is a left one, else those from p on.
-fn renew_row<T: Semigroup>(n: usize, table: &mut [T], row: u32, p: usize)
-    requires row { Row n row (length table.old) }
-    requires event { p < n }
-    ensures { RowRenewed T.Semigroup.op n p row table.old table.new }
-{
-    let start = half_start(row, p);
-    if (p >> row) % 2 == 0 {
-        refresh_left(n, table, row, start, p + 1);
-    } else {
-        refresh_right(n, table, row, p, n.min(start + (1usize << row)));
+    // Computes all cells.
+    fn fill<T: Semigroup>(self, table: &mut [T])
+        requires { RowFits self.events.count self.halves.e (length table.old) }
+        ensures { RowFilled T.Semigroup.op self.events.count self.halves.e table.old table.new }
+    {
+        let n = self.events.count as usize;
+        self.refresh_left(table, 0..n);
+        self.refresh_right(table, 0..n);
+    }
+
+    // Computes the cells that reach over p: of p's half, those up to p if it is a left one, else those from p on.
+    fn renew<T: Semigroup>(self, table: &mut [T], p: usize)
+        requires row { RowFits self.events.count self.halves.e (length table.old) }
+        requires event { p < self.events.count }
+        ensures { RowRenewed T.Semigroup.op self.events.count p self.halves.e table.old table.new }
+    {
+        if self.is_left(p) {
+            self.refresh_left(table, self.halves.start(p)..p + 1);
+        } else {
+            self.refresh_right(table, p..self.halves.end(self.events, p));
+        }
     }
 }

@@ -4,10 +4,11 @@ use borrow.Rule.Slice.PartMut.{put_mid}
 use Rattle.std.specs.List.{slice_get}
 use Rattle.scheme.specs.Plan.{Part, Plan}
 use Rattle.scheme.specs.Calls.{Drawn, piece_of}
+use Rattle.scheme.specs.Blocks.{start_of_block, end_of_block}
 use Rattle.scheme.specs.declared.Piece.{Piece}
 use Rattle.scheme.specs.declared.Answer.{Answer}
 use Rattle.scheme.proofs.Drawing.{piece_is, drawn_two}
-use Rattle.layer_parts.specs.Parts.{start_of_block, end_of_block, inner_table, inner_tables, count_of_children, step_part, HasAt, LiftedAt}
+use Rattle.layer_parts.specs.Parts.{inner_table, inner_tables, count_of_children, step_part, HasAt, LiftedAt}
 use Rattle.layer_parts.specs.Layout.{between, inner_start, moved, step_pieces, Apart}
 use Rattle.layer_parts.specs.Writes.{suffix_piece, prefix_piece}
 use Rattle.layer_parts.proofs.Blocks.{parent_counted}

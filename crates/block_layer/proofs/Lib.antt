@@ -1,5 +1,6 @@
 pub mod Sizes
 pub mod Walks
+pub mod Seeking
 pub mod Updating
 pub mod Turning
 pub mod Betweens

@@ -1,44 +1,26 @@
 -- The step in which the ends of a run part.
-use Rattle.std.proofs.Common.{◌≡◌, ℕ, ◌+◌, ◌-◌, ◌^◌, ◌<◌, ◌≤◌, List, [], ◌∷◌, length, sym, refl, ap, ◌∙◌, arith}
-use Rattle.std.proofs.lemmas.Bool.{cond-true, eq-eqb, ne_eqb}
-use Rattle.scheme.specs.Plan.{Part, Plan, Sound, single}
+use Rattle.std.proofs.Common.{◌≡◌, ℕ, ◌+◌, ◌-◌, ◌^◌, ◌<◌, ◌≤◌, List, sym, ap, ◌∙◌, arith}
+use Rattle.std.proofs.lemmas.Bool.{ne_eqb}
+use Rattle.scheme.specs.Plan.{Part, Plan, Sound}
 use Rattle.scheme.specs.Exponent.{exponent}
-use Rattle.scheme.proofs.Exponents.{exponent_few}
-use Rattle.layer_parts.specs.Parts.{items, step_part, HasAt}
-use Rattle.layer_parts.specs.Layout.{exponent_at, count_of_steps, step_of_parting, between, moved, step_pieces, layout_step, layout_steps, layer_part, layer_pieces, Apart}
-use Rattle.layer_parts.proofs.Laying.{span_left, laid_room}
-use Rattle.layer_parts.proofs.Layouts.{live, exponent_next}
-use Rattle.layer_parts.proofs.Drawing.{length_moved}
-use Rattle.layer_parts.proofs.Soundness.{apart_in_step, step_placed, step_count}
-use Rattle.block_layer.specs.Steps.{Exponents, StepFits, Parting, parting_start}
+use Rattle.layer_parts.specs.Parts.{step_part, HasAt}
+use Rattle.layer_parts.specs.Layout.{exponent_at, count_of_steps, step_of_parting, moved, step_pieces, layout_step, layer_part, layer_pieces, Apart}
+use Rattle.layer_parts.proofs.Laying.{laid_room}
+use Rattle.layer_parts.proofs.Soundness.{apart_in_step, step_placed}
+use Rattle.block_layer.specs.Steps.{StepFits, Parting, parting_start}
 
 module _ (plan : Plan) (n i j : ℕ) where
   back : j + 1 - 1 ≡ j
   back = omega arith
-
-  -- an event alone
-  pub one_piece : i ≡ j → layer_pieces plan n i (j + 1 - 1) ≡ i ∷ []
-  one_piece same = rw back (cond-true _ _ _ (eq-eqb i j same))
 
   -- two events and all between
   two_pieces : (i ≡ j → ⊥) → layer_pieces plan n i j ≡ moved (parting_start plan n i j)
       (step_pieces plan n (2 ^ exponent_at plan.child (exponent n) (step_of_parting plan.child (exponent n) i j)) (2 ^ exponent_at plan.child (exponent n) (step_of_parting plan.child (exponent n) i j + 1)) i j)
   two_pieces ne = rw (ne_eqb i j ne)
 
-  pub item_span : i < n → (layer_part plan n).span i ≡ single i
-  item_span low = span_left (items n) (layout_steps plan n (exponent n) (count_of_steps plan.child (exponent n))) i low
-
 module _ (plan : Plan) (sound : Sound plan) (n i j e f : ℕ) (few : n ≤ 65536) (rise : i < j) (low : j < n) (p : Parting plan n i j e f) where
   pub parted_apart : Apart n (2 ^ e) (2 ^ f) i j
   parted_apart = rw (p.upper, p.lower) (apart_in_step plan sound n i j few rise low).1
-
-  pub parted_exponents : Exponents n e f
-  parted_exponents =
-      let top = exponent_few n few in
-      let s = step_of_parting plan.child (exponent n) i j in
-      let l = live plan.child sound.falls s (exponent n) top (apart_in_step plan sound n i j few rise low).0 in
-      let d = sound.falls (exponent_at plan.child (exponent n) s) l.0 (omega (arith, l.1)) in
-      record { some = omega arith; few = few; low = omega (arith, l.1, p.upper); falls = omega (arith, p.upper, p.lower, exponent_next plan.child (exponent n) s) }
 
   step_same : step_part plan.part n (2 ^ e) (2 ^ f) ≡ layout_step plan n (exponent n) (step_of_parting plan.child (exponent n) i j)
   step_same = rw (p.upper, p.lower)
@@ -48,10 +30,9 @@ module _ (plan : Plan) (sound : Sound plan) (n i j e f : ℕ) (few : n ≤ 65536
 
   pub parted_fits : (at room : ℕ) → at ≡ parting_start plan n i j → (layer_part plan n).size < 2 ^ 40 → (layer_part plan n).size ≤ room → StepFits plan n e f at room
   parted_fits at room placed small fits =
-      let x = parted_exponents in
       let inside = laid_room (layout_step plan n (exponent n)) (step_of_parting plan.child (exponent n) i j) (count_of_steps plan.child (exponent n)) (apart_in_step plan sound n i j few rise low).0 in
       let size = ap (λ (q : Part). q.size) step_same in
-      record { some = x.some; few = few; low = x.low; falls = x.falls; past = omega arith; small = omega arith; fits = omega arith }
+      record { past = omega arith; small = omega arith; fits = omega arith }
 
   pub parted_pieces : (at : ℕ) → at ≡ parting_start plan n i j → layer_pieces plan n i (j + 1 - 1) ≡ moved at (step_pieces plan n (2 ^ e) (2 ^ f) i j)
   parted_pieces at placed =
@@ -60,6 +41,3 @@ module _ (plan : Plan) (sound : Sound plan) (n i j e f : ℕ) (few : n ≤ 65536
       let upper = exponent_at plan.child (exponent n) (step_of_parting plan.child (exponent n) i j) in
       ap (layer_pieces plan n i) (back plan n i j) ∙ two_pieces plan n i j (λ same. omega arith)
       ∙ ap (λ a. cells a upper lower) (sym placed) ∙ ap (λ x. cells at x lower) (sym p.upper) ∙ ap (λ y. cells at e y) (sym p.lower)
-
-  pub parted_count : length (layer_pieces plan n i (j + 1 - 1)) ≡ length (between plan n (2 ^ e) (2 ^ f) i j) + 2
-  parted_count = ap length (parted_pieces (parting_start plan n i j) refl) ∙ length_moved (parting_start plan n i j) (step_pieces plan n (2 ^ e) (2 ^ f) i j) ∙ step_count plan n (2 ^ e) (2 ^ f) i j

@@ -3,27 +3,28 @@ use Rattle.std.proofs.Common.{◌≡◌, ℕ, ◌+◌, ◌-◌, ◌*◌, ◌/◌
 use Rattle.std.proofs.lemmas.Nat.{div-add-mod'}
 use Rattle.std.proofs.lemmas.Bool.{cases_eq, ne_eqb}
 use Rattle.scheme.specs.Plan.{Plan}
-use Rattle.scheme.specs.Calls.{capped, Events}
+use Rattle.scheme.specs.Calls.{capped}
+use Rattle.scheme.specs.declared.events.EventCount.{EventCount}
 use Rattle.layer_parts.specs.Parts.{inner_table, inner_tables, step_part, count_of_children, parent_count, Widths, Children}
-use Rattle.layer_parts.proofs.Blocks.{widths_of, row_before, children_of, children_few, children_whole, parent_counted}
+use Rattle.layer_parts.proofs.Blocks.{widths_of, row_before, children_of, children_whole, parent_counted}
 use Rattle.layer_parts.proofs.Laying.{laid_room}
 use Rattle.layer_parts.proofs.Counting.{capped_product, capped_sum, pow_div, whole_inners, parents_even, parents_cut, even_inners, cut_inners}
-use Rattle.block_layer.specs.Steps.{Exponents, StepFits, cells_of_whole, ParentOf}
+use Rattle.block_layer.specs.Steps.{cells_of_whole}
+use Rattle.block_layer.specs.declared.steps.Step.{Step}
+
+-- parents of 2^e of n events, and children of 2^f
+pub record Exponents (n e f : ℕ) : Type 0 where
+  pub some : 0 < n
+  pub few : n ≤ 65536
+  pub low : e ≤ 16
+  pub falls : f < e
 
 pub widths : (n e f : ℕ) → Exponents n e f → Widths n (2 ^ e) (2 ^ f)
 widths n e f x = widths_of n e f x.some x.few x.low (omega (arith, x.falls))
 
-pub exponents : (plan : Plan) (n e f at room : ℕ) → StepFits plan n e f at room → Exponents n e f
-exponents plan n e f at room s = record { some = s.some; few = s.few; low = s.low; falls = s.falls }
-
-pub below_cap : (plan : Plan) (n e f at room : ℕ) → StepFits plan n e f at room → StepFits plan n e f at (2 ^ 40)
-below_cap plan n e f at room s = record { some = s.some; few = s.few; low = s.low; falls = s.falls; past = s.past; small = s.small; fits = omega (arith, s.small) }
-
--- a parent's children are events of an inner table
-pub kids_events : (n e f k : ℕ) → Exponents n e f → k * 2 ^ e < n → Events (count_of_children n (k * 2 ^ e) (2 ^ e) (2 ^ f))
-kids_events n e f k x h =
-    let kids = children_of n (2 ^ e) (2 ^ f) k (widths n e f x) h in
-    record { some = kids.some; few = omega (arith, children_few n (k * 2 ^ e) (2 ^ f) _ kids, x.few) }
+-- what the types of a number of events and of a step keep
+pub exponents : (events : EventCount) (step : Step) → Exponents events.count step.parents.e step.children.e
+exponents events step = record { some = events.counted.some; few = events.counted.few; low = step.parents.few; falls = step.falls }
 
 -- counting whole tables with the cap
 whole_counted : (plan : Plan) (e f a k : ℕ) → capped (a + k * cells_of_whole plan e f k) ≡ capped (a + k * (plan.part (2 ^ (e - f))).size)
@@ -89,18 +90,29 @@ module _ (plan : Plan) (n e f : ℕ) (x : Exponents n e f) where
   pub below_whole : (k : ℕ) → k < n / 2 ^ e → k * 2 ^ e < n
   below_whole k h = omega (arith, row_before k (n / 2 ^ e) (2 ^ e) h, div-add-mod' n (2 ^ e), (widths n e f x).more)
 
--- the inner table of p's parent lies within its step
-pub parent_fits : (plan : Plan) (n e f at room p start children cells told : ℕ) → StepFits plan n e f at room → p < n → ParentOf plan n e f at p start children cells → told ≡ capped (plan.part children).size
-    → (told ≡ (plan.part children).size) × (cells + told ≤ room) × (cells + told < 2 ^ 40) × (at + n + n ≤ cells)
-parent_fits plan n e f at room p start children cells told s low is told_is =
-    let x = exponents plan n e f at room s in
-    let inside = laid_room (inner_table plan.part n (2 ^ e) (2 ^ f)) (p / 2 ^ e) (parent_count n (2 ^ e)) (parent_counted n (2 ^ e) p (widths n e f x).more low) in
-    let size = ap (λ m. (plan.part m).size) is.counted in
-    (omega (arith, s.small, is.placed), omega (arith, s.fits, s.small, is.placed), omega (arith, s.small, is.placed), omega (arith, is.placed))
-
--- p's parent begins below n, and its children are events of its inner table
-pub parent_kids : (plan : Plan) (n e f at p start children cells : ℕ) → Exponents n e f → p < n → ParentOf plan n e f at p start children cells
-    → Children n start (2 ^ f) children × Events children
-parent_kids plan n e f at p start children cells x low is =
+-- the children of p's parent are blocks of events
+pub kids_of : (n e f p start children : ℕ) → Exponents n e f → p < n → start ≡ p / 2 ^ e * 2 ^ e → children ≡ count_of_children n start (2 ^ e) (2 ^ f) → Children n start (2 ^ f) children
+kids_of n e f p start children x low begins counted =
     let below : p / 2 ^ e * 2 ^ e < n = omega (arith, div-add-mod' p (2 ^ e)) in
-    rw (is.begins, is.counted) (children_of n (2 ^ e) (2 ^ f) (p / 2 ^ e) (widths n e f x) below, kids_events n e f (p / 2 ^ e) x below)
+    rw (counted, begins) (children_of n (2 ^ e) (2 ^ f) (p / 2 ^ e) (widths n e f x) below)
+
+-- parent k, which is not cut, where one inner table takes r cells
+pub record WholeParent (plan : Plan) (n e f k r : ℕ) : Type 0 where
+  pub size : r ≡ (plan.part (2 ^ (e - f))).size
+  pub before : k * r ≡ (inner_tables plan.part n (2 ^ e) (2 ^ f) k).size
+  pub room : (inner_tables plan.part n (2 ^ e) (2 ^ f) k).size + r ≤ (inner_tables plan.part n (2 ^ e) (2 ^ f) (parent_count n (2 ^ e))).size
+  pub counted : count_of_children n (k * 2 ^ e) (2 ^ e) (2 ^ f) ≡ 2 ^ (e - f)
+  pub kids : Children n (k * 2 ^ e) (2 ^ f) (2 ^ (e - f))
+
+pub whole_parent : (plan : Plan) (n e f k r : ℕ) → Exponents n e f → k < n / 2 ^ e → (step_part plan.part n (2 ^ e) (2 ^ f)).size < 2 ^ 40 → r ≡ cells_of_whole plan e f (n / 2 ^ e) → WholeParent plan n e f k r
+whole_parent plan n e f k r x low small told =
+    let size = whole_size plan n e f x (n / 2 ^ e) r (omega arith) (omega arith) small told in
+    let counted = whole_kids plan n e f x k low in
+    let room = laid_room (inner_table plan.part n (2 ^ e) (2 ^ f)) k (parent_count n (2 ^ e)) (whole_counts plan n e f x k low) in
+    record {
+      size = size;
+      before = whole_exact plan n e f x k (n / 2 ^ e) r (omega arith) (omega arith) small told;
+      room = omega (arith, ap (λ m. (plan.part m).size) counted);
+      counted = counted;
+      kids = rw counted at (children_of n (2 ^ e) (2 ^ f) k (widths n e f x) (below_whole plan n e f x k low));
+    }

@@ -5,12 +5,13 @@ use Rattle.std.specs.List.{slice_get}
 use Rattle.scheme.specs.Plan.{Plan, Sound}
 use Rattle.scheme.specs.Table.{Holds}
 use Rattle.scheme.specs.Calls.{Renewed}
-use Rattle.layer_parts.specs.Parts.{start_of_block, count_of_children, suffixes, inner_tables, parent_count}
+use Rattle.scheme.specs.Blocks.{start_of_block}
+use Rattle.layer_parts.specs.Parts.{count_of_children, suffixes, inner_tables, parent_count}
 use Rattle.layer_parts.specs.Layout.{child_holding}
 use Rattle.layer_parts.specs.Writes.{PartRenewed}
 use Rattle.layer_parts.proofs.Renewing.{inner_renewed, inners_renewed}
-use Rattle.block_layer.specs.Steps.{Exponents, ParentOf}
-use Rattle.block_layer.proofs.Sizes.{widths}
+use Rattle.block_layer.specs.Steps.{ParentOf}
+use Rattle.block_layer.proofs.Sizes.{Exponents, widths}
 
 -- the inner tables of a step, after an inner update of the child of p in the table of its parent
 pub inner_updated : {A : Type 0} (op : A → A → A) → ((a b c : A) → op (op a b) c ≡ op a (op b c)) → (plan : Plan) → Sound plan → (n e f at p start children cells len q place : ℕ) (y : A) (t ys : List A)

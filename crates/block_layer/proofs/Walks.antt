@@ -1,107 +1,87 @@
 -- A walk down the steps of a layout, with the place where the cells of each step begin.
-use Rattle.std.proofs.Common.{◌≡◌, ℕ, ◌+◌, ◌/◌, ◌^◌, ◌<◌, ◌≤◌, sym, ap, ◌∙◌, ⊎_elim, div-one, arith}
-use native.Mathlib.Nat.{div-eq_of_lt}
-use Rattle.std.proofs.lemmas.Bool.{cases_eq}
+use Rattle.std.proofs.Common.{◌≡◌, ℕ, ◌+◌, ◌^◌, ◌<◌, ◌≤◌, List, [], ◌∷◌, length, Option, None, refl, ap, ◌∙◌, arith}
+use Rattle.std.specs.Iterator.{Yields}
 use Rattle.scheme.specs.Plan.{Part, Plan, Sound}
 use Rattle.scheme.specs.Calls.{capped}
 use Rattle.scheme.specs.Exponent.{exponent}
-use Rattle.scheme.proofs.Exponents.{exponent_least, exponent_few}
+use Rattle.scheme.proofs.Exponents.{exponent_few}
 use Rattle.layer_parts.specs.Parts.{step_part}
-use Rattle.layer_parts.specs.Layout.{exponent_at, count_of_steps, step_of_parting, layout_step, layout_steps, layer_part}
+use Rattle.layer_parts.specs.Layout.{count_of_steps, layout_step, layout_steps, layer_part}
 use Rattle.layer_parts.proofs.Laying.{laid_room, laid_more}
-use Rattle.layer_parts.proofs.Layouts.{AtStep, at_first, at_live, at_next, exponent_next, parting_later, parting_here}
+use Rattle.layer_parts.proofs.Layouts.{AtStep, at_first, at_end, at_live, at_next}
 use Rattle.layer_parts.proofs.Filling.{step_is}
-use Rattle.block_layer.specs.Steps.{Exponents, StepFits, Parting}
+use Rattle.block_layer.specs.Steps.{StepFits}
+use Rattle.block_layer.specs.Walk.{StepFrom, GivesStep, PlacedFrom, GivesPlaced}
+use Rattle.block_layer.specs.declared.walk.Steps.{Steps}
+use Rattle.block_layer.specs.declared.walk.PlacedSteps.{PlacedSteps}
+use Rattle.block_layer.specs.declared.steps.Step.{Step}
+use Rattle.block_layer.specs.declared.steps.PlacedStep.{PlacedStep}
 
--- a walk is at step s, from blocks of 2^e to blocks of 2^f events, whose cells begin at `at`
-module _ (plan : Plan) (sound : Sound plan) (n s e f : ℕ) (some : 0 < n) (few : n ≤ 65536) (a : AtStep plan.child (exponent n) s e) (live : 0 < e) (told : f ≡ plan.child e) where
-  pub walk_falls : f < e
-  walk_falls = omega (arith, sound.falls e live a.low)
+-- a walk is at blocks of 2^e events and at step s, whose cells begin at `at`
+pub record Walk (plan : Plan) (n s e at : ℕ) : Type 0 where
+  pub step : AtStep plan.child (exponent n) s e
+  pub place : at ≡ capped (n + (layout_steps plan n (exponent n) s).size)
 
-  pub walk_exponents : Exponents n e f
-  walk_exponents = record { some = some; few = few; low = a.low; falls = walk_falls }
+pub walk_first : (plan : Plan) (n e at : ℕ) → n ≤ 65536 → e ≡ exponent n → at ≡ n → Walk plan n 0 e at
+walk_first plan n e at few is place = rw (is, place) (record { step = at_first plan.child (exponent n) (exponent_few n few); place = omega arith })
 
-  pub walk_step : step_part plan.part n (2 ^ e) (2 ^ f) ≡ layout_step plan n (exponent n) s
-  walk_step = step_is plan n (exponent n) s e f a.exponent_is told
+module _ (plan : Plan) (sound : Sound plan) (n s e f : ℕ) (step : Step) (a : AtStep plan.child (exponent n) s e) (given : StepFrom plan e f step) where
+  live : 0 < e
+  live = omega (arith, given.parents, step.falls)
 
-  pub walk_next : AtStep plan.child (exponent n) (s + 1) f
-  walk_next = at_next plan.child sound.falls (exponent n) s e a live f told
+  -- the step that it gives is the layout's
+  pub walk_step : step_part plan.part n (2 ^ step.parents.e) (2 ^ step.children.e) ≡ layout_step plan n (exponent n) s
+  walk_step = rw (given.parents, given.children) (step_is plan n (exponent n) s e f a.exponent_is given.told)
 
-  module _ (at : ℕ) (placed : at ≡ n + (layout_steps plan n (exponent n) s).size) (small : (layer_part plan n).size < 2 ^ 40) where
-    walk_room : at + (step_part plan.part n (2 ^ e) (2 ^ f)).size ≤ (layer_part plan n).size
-    walk_room = omega (arith, laid_room (layout_step plan n (exponent n)) s (count_of_steps plan.child (exponent n)) (at_live plan.child sound.falls (exponent n) s e a live), ap (λ (p : Part). p.size) walk_step)
+  pub walk_on : (at r next : ℕ) → Walk plan n s e at → next ≡ capped (at + r) → capped r ≡ capped (step_part plan.part n (2 ^ step.parents.e) (2 ^ step.children.e)).size → Walk plan n (s + 1) f next
+  walk_on at r next w is counted =
+      let more = ap (λ (p : Part). p.size) (laid_more (layout_step plan n (exponent n)) s) in
+      let size = ap (λ (p : Part). p.size) walk_step in
+      record { step = at_next plan.child sound.falls (exponent n) s e a live f given.told; place = omega (arith, w.place) }
 
-    pub walk_fits : (room : ℕ) → (layer_part plan n).size ≤ room → StepFits plan n e f at room
-    walk_fits room fits = record { some = some; few = few; low = a.low; falls = walk_falls; past = omega arith; small = omega (arith, walk_room); fits = omega (arith, walk_room) }
+-- ---- with the place of each step
 
-    -- the next step begins where this one ends
-    pub walk_on : (r : ℕ) → capped r ≡ capped (step_part plan.part n (2 ^ e) (2 ^ f)).size → (at + r ≡ n + (layout_steps plan n (exponent n) (s + 1)).size) × (at + r < 2 ^ 40)
-    walk_on r counted =
-        let room = walk_room in
-        let more = ap (λ (p : Part). p.size) (laid_more (layout_step plan n (exponent n)) s) in
-        let size = ap (λ (p : Part). p.size) walk_step in
-        let exact : r ≡ (step_part plan.part n (2 ^ e) (2 ^ f)).size = omega arith in
-        (omega arith, omega arith)
+module _ (plan : Plan) (sound : Sound plan) (n s e at f end : ℕ) (placed : PlacedStep) (w : Walk plan n s e at) (given : PlacedFrom plan n e at f end placed) where
+  pub placed_is : step_part plan.part n (2 ^ placed.step.parents.e) (2 ^ placed.step.children.e) ≡ layout_step plan n (exponent n) s
+  placed_is = walk_step plan sound n s e f placed.step w.step given.step
 
--- ---- the step in which two events part
+  pub placed_next : Walk plan n (s + 1) f end
+  placed_next = walk_on plan sound n s e f placed.step w.step given.step at _ end w given.next refl
 
--- a walk to the step in which i and j part is at step s, from blocks of 2^e to blocks of 2^f events
-pub record Seeking (plan : Plan) (n i j s e f : ℕ) : Type 0 where
-  pub walk : AtStep plan.child (exponent n) s e
-  pub live : 0 < e
-  pub told : f ≡ plan.child e
-  pub together : i / 2 ^ e ≡ j / 2 ^ e
-  pub ahead : step_of_parting plan.child (exponent n) i j ≡ s + step_of_parting plan.child e i j
+  module _ (small : (layer_part plan n).size < 2 ^ 40) where
+    room : n + (layout_steps plan n (exponent n) s).size + (layout_step plan n (exponent n) s).size ≤ (layer_part plan n).size
+    room =
+        let live : 0 < e = omega (arith, given.step.parents, placed.step.falls) in
+        omega (arith, laid_room (layout_step plan n (exponent n)) s (count_of_steps plan.child (exponent n)) (at_live plan.child sound.falls (exponent n) s e w.step live))
 
-module _ (plan : Plan) (sound : Sound plan) (n i j : ℕ) (few : n ≤ 65536) (rise : i < j) (low : j < n) where
-  pub seek_some : 0 < exponent n
-  seek_some = ⊎_elim
-      (λ (none : exponent n ≡ 0). let big = rw none at (exponent_least n (omega arith)).enough in absurd (omega arith))
-      (λ (some : exponent n ≡ 0 → ⊥). omega (arith, some))
-      (cases_eq (exponent n) 0)
+    -- where it begins, and that the table has room for it
+    pub placed_at : placed.at ≡ n + (layout_steps plan n (exponent n) s).size
+    placed_at = omega (arith, room, w.place, given.place)
 
-  pub seek_first : (e f : ℕ) → e ≡ exponent n → f ≡ plan.child e → Seeking plan n i j 0 e f
-  seek_first e f is told =
-      let big = (exponent_least n (omega arith)).enough in
-      rw is (record {
-        walk = at_first plan.child (exponent n) (exponent_few n few);
-        live = seek_some;
-        told = rw is at told;
-        together = div-eq_of_lt (omega arith) ∙ sym (div-eq_of_lt (omega arith));
-        ahead = omega arith;
-      })
+    pub placed_fits : (cells : ℕ) → (layer_part plan n).size ≤ cells → StepFits plan n placed.step.parents.e placed.step.children.e placed.at cells
+    placed_fits cells fits =
+        let size = ap (λ (p : Part). p.size) placed_is in
+        record { past = omega (arith, placed_at); small = omega (arith, room, placed_at); fits = omega (arith, room, placed_at) }
 
-  module _ (s e f : ℕ) (k : Seeking plan n i j s e f) where
-    pub seek_low : f < e
-    seek_low = omega (arith, sound.falls e k.live k.walk.low, k.told)
+-- ---- all steps
 
-    -- children that part no two events have more than one event
-    pub seek_live : i / 2 ^ f ≡ j / 2 ^ f → 0 < f
-    seek_live same = ⊎_elim
-        (λ (none : f ≡ 0). let one = rw none at same in absurd (omega (arith, div-one i, div-one j)))
-        (λ (some : f ≡ 0 → ⊥). omega (arith, some))
-        (cases_eq f 0)
+-- what a call of `next` on a walk gives
+module _ {A : Type 0} (plan_of : A → Plan) where
+  abbrev pub gives : Steps A → Option Step → Steps A → Type 0
+  gives s r t = (t.inner ≡ s.inner) × GivesStep (plan_of s.inner.now) s.block.e r t.block.e
 
-    pub seek_next : (f' : ℕ) → i / 2 ^ f ≡ j / 2 ^ f → f' ≡ plan.child f → Seeking plan n i j (s + 1) f f'
-    seek_next f' same told =
-        let later = parting_later plan.child sound.falls e i j k.live k.walk.low (λ one. omega arith) (rw k.told at same) in
-        record {
-          walk = at_next plan.child sound.falls (exponent n) s e k.walk k.live f k.told;
-          live = seek_live same;
-          told = told;
-          together = same;
-          ahead = omega (arith, k.ahead, ap (λ x. step_of_parting plan.child x i j) k.told);
-        }
+  abbrev pub gives_placed : PlacedSteps A → Option PlacedStep → PlacedSteps A → Type 0
+  gives_placed s r t = (t.steps.inner ≡ s.steps.inner) × ((t.events ≡ s.events) × GivesPlaced (plan_of s.steps.inner.now) s.events.count s.steps.block.e s.at r t.steps.block.e t.at)
 
-    -- the walk has come to the step
-    pub seek_here : (i / 2 ^ f ≡ j / 2 ^ f → ⊥) → step_of_parting plan.child (exponent n) i j ≡ s
-    seek_here apart = omega (arith, k.ahead, parting_here plan.child sound.falls e i j k.live (λ same. apart (rw k.told same)))
-
-    pub seek_done : (i / 2 ^ f ≡ j / 2 ^ f → ⊥) → Parting plan n i j e f
-    seek_done apart =
-        let here = seek_here apart in
-        let exponents = exponent_at plan.child (exponent n) in
-        record {
-          upper = k.walk.exponent_is ∙ ap exponents (sym here);
-          lower = k.told ∙ ap plan.child k.walk.exponent_is ∙ sym (exponent_next plan.child (exponent n) s) ∙ ap (λ x. exponents (x + 1)) (sym here);
-        }
+-- a walk gives as many steps as the layout has left
+module _ {A : Type 0} (plan_of : A → Plan) (sound_of : (a : A) → Sound (plan_of a)) where
+  pub counted : (top : ℕ) (xs : List Step) (s t u : Steps A) (k : ℕ) → AtStep (plan_of s.inner.now).child top k s.block.e → Yields (gives plan_of) s xs t → gives plan_of t None u → k + length xs ≡ count_of_steps (plan_of s.inner.now).child top
+  counted top [] s t u k a y z =
+      let same : s ≡ t = y in
+      let none : s.block.e ≡ 0 = ap (λ (w : Steps A). w.block.e) same ∙ z.1.0 in
+      omega (arith, at_end (plan_of s.inner.now).child top k s.block.e a none)
+  counted top (x ∷ xs) s t u k a y z =
+      let given = y.1.1 in
+      let live : 0 < s.block.e = omega (arith, given.parents, x.falls) in
+      let next = at_next (plan_of s.inner.now).child (sound_of s.inner.now).falls top k s.block.e a live y.0.block.e given.told in
+      omega (arith, rw y.1.0 at (counted top xs y.0 t u (k + 1) (rw y.1.0 next) y.2 z))

@@ -1,84 +1,114 @@
 //! How many cells a step has, and where a parent's inner table begins among them.
 
 ghost use Rattle.std.specs.Prelude.{◌≡◌, ◌+◌, ◌-◌, ◌*◌, ◌^◌, ◌<◌, ◌≤◌};
-ghost use Rattle.scheme.specs.Calls.{capped, Events};
-ghost use Rattle.layer_parts.specs.Parts.{step_part};
+ghost use Rattle.scheme.specs.Calls.{capped};
+ghost use Rattle.layer_parts.specs.Parts.{step_part, Children};
 ghost use Rattle.layer_parts.specs.Layout.{layer_part};
-ghost use Rattle.block_layer.specs.Steps.{Exponents, StepFits, cells_of_whole, ParentOf};
+ghost use Rattle.block_layer.specs.Steps.{StepFits, cells_of_whole, ParentOf};
 
-use crate::blocks::{block_start, child_count, whole_count};
-use scheme::{EventNo, Scheme, UNCOUNTED, exponent_of};
+use crate::rows::Row;
+use crate::steps::{PlacedStep, Step};
+use scheme::{BlockExponent, EventCount, EventNo, Scheme, UNCOUNTED};
 
-/// A step of a layout: parents of 2^e events, children of 2^f, and where the cells of the step begin.
-#[derive(Clone, Copy)]
-pub(crate) struct Step {
-    pub(crate) e: u32,
-    pub(crate) f: u32,
-    pub(crate) at: usize,
+/// A layer over an inner scheme, for a table of so many events.
+#[derive(Drop)]
+pub(crate) struct Layer<'a, S> {
+    pub(crate) inner: &'a S,
+    pub(crate) events: EventCount,
 }
 
-/// A parent: its first event, how many children it has, and where its inner table begins.
+/// A parent among the events of a layer: its first event, the number of its children, which are the events of its inner
+/// table, their blocks, and where that table begins.
 #[derive(Clone, Copy)]
 pub(crate) struct Parent {
+    pub(crate) events: EventCount,
     pub(crate) start: EventNo,
-    pub(crate) children: u32,
+    pub(crate) children: EventCount,
+    pub(crate) block: BlockExponent,
     pub(crate) at: usize,
+    ghost kids: { Children events.count start.0 (2 ^ block.e) children.count },
 }
 
-// The cells of the inner table of a parent with all its children, or 0 if none of k parents is there.
-pub(crate) fn whole_cells<S: Scheme>(inner: &S, e: u32, f: u32, k: u32) -> u64
-    requires { (e ≤ 16) × (f < e) }
-    ensures value { result ≡ cells_of_whole (S.Scheme.plan inner.now) e f k }
-    ensures small { result ≤ 2 ^ 40 }
-{
-    if k == 0 {
-        return 0;
+impl<S: Scheme> Layer<'_, S> {
+    // The cells of the inner table of a parent with all its children, or 0 if none of k parents is there.
+    pub(crate) fn whole_cells(&self, step: Step, k: u32) -> u64
+        ensures value { result ≡ cells_of_whole (S.Scheme.plan self.now.inner.now) step.parents.e step.children.e k }
+        ensures small { result ≤ 2 ^ 40 }
+    {
+        if k == 0 {
+            return 0;
+        }
+        self.inner.cells(step.whole_count())
     }
-    inner.cells(whole_count(e, f))
-}
 
-// The cells of a step; exact if they are fewer than 2^40.
-pub(crate) fn step_cells<S: Scheme>(inner: &S, n: u32, e: u32, f: u32) -> u64
-    requires { Exponents n e f }
-    ensures counted { capped result ≡ capped (step_part (S.Scheme.plan inner.now).part n (2 ^ e) (2 ^ f)).size }
-    ensures small { result < 2 ^ 60 }
-{
-    let full = n >> e;
-    let start = block_start(e, n as usize) as u32;
-    let whole = 2 * n as u64 + full as u64 * whole_cells(inner, e, f, full);
-    if start == n {
-        return whole;
+    // The cells of a step; exact if they are fewer than 2^40.
+    pub(crate) fn step_cells(&self, step: Step) -> u64
+        ensures counted { capped result ≡ capped (step_part (S.Scheme.plan self.now.inner.now).part self.now.events.count (2 ^ step.parents.e) (2 ^ step.children.e)).size }
+        ensures small { result < 2 ^ 60 }
+    {
+        let n = self.events.count;
+        let full = n >> step.parents.e;
+        let start = step.parents.start(n as usize) as u32;
+        let whole = 2 * u64::from(n) + u64::from(full) * self.whole_cells(step, full);
+        if start == n {
+            return whole;
+        }
+        whole
+            + self
+                .inner
+                .cells(step.child_count(self.events, EventNo(start)))
     }
-    whole + inner.cells(child_count(n, start, e, f))
-}
 
-// The cells of the whole layer; 2^40 stands for that or more.
-pub(crate) fn layer_cells<S: Scheme>(inner: &S, n: u32) -> u64
-    requires { Events n }
-    ensures { result ≡ capped (layer_part (S.Scheme.plan inner.now) n).size }
-{
-    let mut total = n as u64;
-    let mut e = exponent_of(n);
-    while e > 0 {
-        let f = inner.child_exponent(e);
-        total = UNCOUNTED.min(total + step_cells(inner, n, e, f));
-        e = f;
+    // The cells of the whole layer; 2^40 stands for that or more.
+    pub(crate) fn cells(&self) -> u64
+        ensures { result ≡ capped (layer_part (S.Scheme.plan self.now.inner.now) self.now.events.count).size }
+    {
+        let mut total = u64::from(self.events.count);
+        for step in self.steps() {
+            total = UNCOUNTED.min(total + self.step_cells(step));
+        }
+        total
     }
-    total
-}
 
-// The parent of p in a step.
-pub(crate) fn parent_of<S: Scheme>(inner: &S, n: u32, step: Step, p: EventNo) -> Parent
-    requires step { StepFits (S.Scheme.plan inner.now) n step.e step.f step.at (2 ^ 40) }
-    requires event { p.0 < n }
-    ensures { ParentOf (S.Scheme.plan inner.now) n step.e step.f step.at p.0 result.start.0 result.children result.at }
-{
-    let k = p.0 >> step.e;
-    let start = block_start(step.e, p.0 as usize) as u32;
-    let before = k as u64 * whole_cells(inner, step.e, step.f, k);
-    Parent {
-        start: EventNo(start),
-        children: child_count(n, start, step.e, step.f),
-        at: step.at + 2 * n as usize + before as usize,
+    // The parent of p in a step.
+    pub(crate) fn parent_of(&self, placed: PlacedStep, p: EventNo) -> Parent
+        requires step { StepFits (S.Scheme.plan self.now.inner.now) self.now.events.count placed.step.parents.e placed.step.children.e placed.at (2 ^ 40) }
+        requires event { p.0 < self.now.events.count }
+        ensures parent { ParentOf (S.Scheme.plan self.now.inner.now) self.now.events.count placed.step.parents.e placed.step.children.e placed.at p.0 result.start.0 result.children.count result.at }
+        ensures children { (result.events ≡ self.now.events) × (result.block ≡ placed.step.children) }
+    {
+        let PlacedStep { step, at } = placed;
+        let k = p.0 >> step.parents.e;
+        let start = EventNo(step.parents.start(p.0 as usize) as u32);
+        let before = u64::from(k) * self.whole_cells(step, k);
+        Parent {
+            events: self.events,
+            start,
+            children: step.child_count(self.events, start),
+            block: step.children,
+            at: at + 2 * self.events.count as usize + before as usize,
+        }
+    }
+
+    // The prefix cells of a step.
+    pub(crate) fn prefixes(&self, placed: PlacedStep) -> Row
+        ensures { result ≡ record { events = self.now.events; block = placed.step.children; at = placed.at } }
+    {
+        Row {
+            events: self.events,
+            block: placed.step.children,
+            at: placed.at,
+        }
+    }
+
+    // The suffix cells of a step, which follow them.
+    pub(crate) fn suffixes(&self, placed: PlacedStep) -> Row
+        requires { placed.at < 2 ^ 40 }
+        ensures { result ≡ record { events = self.now.events; block = placed.step.children; at = placed.at + self.now.events.count } }
+    {
+        Row {
+            at: placed.at + self.events.count as usize,
+            ..self.prefixes(placed)
+        }
     }
 }

@@ -7,24 +7,26 @@
 
 #![tactic(auto)]
 
-ghost use Rattle.std.specs.Prelude.{◌≡◌, ◌<◌, ◌≤◌};
+ghost use Rattle.std.specs.Prelude.{◌≡◌};
 ghost use Rattle.layer_parts.specs.Layout.{count_of_steps, layer_plan};
 ghost use Rattle.layer_parts.proofs.Soundness.{layer_sound};
 
-mod blocks;
 mod cells;
 mod fills;
 mod pieces;
 mod queries;
 mod rows;
+mod steps;
 mod updates;
+mod walk;
 
-use cells::layer_cells;
-use fills::fill_steps;
-use queries::{between_count, parting, parting_step, query_step};
-use scheme::{Answer, CellNo, EventNo, Piece, Scheme, UNCOUNTED, exponent_of};
+use cells::Layer;
+use scheme::{
+    Answer, CellNo, EventCount, EventNo, EventRun, ParentExponent, Piece, Scheme, UNCOUNTED,
+    exponent_of,
+};
 use semigroup::Semigroup;
-use updates::update_steps;
+use walk::Steps;
 
 /// A layer of blocks over an inner scheme.
 #[derive(Clone, Copy)]
@@ -32,73 +34,87 @@ pub struct BlockLayer<S> {
     pub inner: S,
 }
 
+impl<S: Scheme> BlockLayer<S> {
+    // The layer, for a table of so many events.
+    fn over(&self, events: EventCount) -> Layer<'_, S>
+        ensures { (result.inner.now ≡ self.now.inner) × (result.events ≡ events) }
+    {
+        Layer {
+            inner: &self.inner,
+            events,
+        }
+    }
+
+    // The number of steps of the layout from blocks of 2^e events.
+    fn step_count(&self, parents: ParentExponent) -> u32
+        ensures { result ≡ count_of_steps (S.Scheme.plan self.now.inner).child parents.blocks.e }
+    {
+        let steps = Steps {
+            inner: &self.inner,
+            block: parents.blocks,
+        };
+        steps.count() as u32
+    }
+}
+
 impl<S: Scheme> Scheme for BlockLayer<S> {
     ghost plan = { λ s. layer_plan (S.Scheme.plan s.inner) };
 
     ghost sound = { λ s. layer_sound _ (S.Scheme.sound s.inner) };
 
-    fn child_exponent(&self, e: u32) -> u32 {
-        exponent_of(step_count(&self.inner, e))
+    fn child_exponent(&self, parents: ParentExponent) -> u32 {
+        exponent_of(self.step_count(parents))
     }
 
     fn budget(&self) -> u64 {
         UNCOUNTED.min(self.inner.budget() + 2)
     }
 
-    fn cells(&self, n: u32) -> u64 {
-        layer_cells(&self.inner, n)
+    fn cells(&self, events: EventCount) -> u64 {
+        self.over(events).cells()
     }
 
-    fn piece_count(&self, n: u32, i: EventNo, j: EventNo) -> u32 {
-        if i.0 == j.0 {
+    fn piece_count(&self, run: EventRun) -> u32 {
+        let EventRun {
+            events,
+            first,
+            last,
+        } = run;
+        if first == last {
             return 1;
         }
-        let (e, f) = parting(&self.inner, n, i, j);
-        between_count(&self.inner, n, e, f, i, j) + 2
+        let layer = self.over(events);
+        let step = layer.parting(first, last);
+        layer.between_count(step, first, last) + 2
     }
 
-    fn fill<T: Semigroup>(&self, n: u32, table: &mut [T]) {
-        fill_steps(&self.inner, n, table);
+    fn fill<T: Semigroup>(&self, events: EventCount, table: &mut [T]) {
+        self.over(events).fill(table);
     }
 
-    fn query<T: Semigroup>(
-        &self,
-        n: u32,
-        table: &[T],
-        i: EventNo,
-        j: EventNo,
-        trace: &mut [Piece],
-    ) -> Answer<T> {
-        if i.0 == j.0 {
+    fn query<T: Semigroup>(&self, table: &[T], run: EventRun, trace: &mut [Piece]) -> Answer<T> {
+        let EventRun {
+            events,
+            first,
+            last,
+        } = run;
+        if first == last {
             trace[0] = Piece {
-                cell: CellNo(i.0 as u64),
-                first: i,
-                last: i,
+                cell: CellNo(u64::from(first.0)),
+                first,
+                last,
             };
             return Answer {
-                value: table[i.0 as usize],
+                value: table[first.0 as usize],
                 combinations: 0,
             };
         }
-        let step = parting_step(&self.inner, n, i, j);
-        query_step(&self.inner, n, table, step, i, j, trace)
+        let layer = self.over(events);
+        let step = layer.parting_step(first, last);
+        layer.query_step(table, step, first, last, trace)
     }
 
-    fn update<T: Semigroup>(&self, n: u32, table: &mut [T], p: EventNo, element: T) {
-        update_steps(&self.inner, n, table, p, element);
+    fn update<T: Semigroup>(&self, events: EventCount, table: &mut [T], p: EventNo, element: T) {
+        self.over(events).update(table, p, element);
     }
-}
-
-// The number of steps of the layout from e.
-fn step_count<S: Scheme>(inner: &S, e: u32) -> u32
-    requires { (0 < e) × (e ≤ 16) }
-    ensures value { result ≡ count_of_steps (S.Scheme.plan inner.now).child e }
-{
-    let mut steps = 0;
-    let mut left = e;
-    while left > 0 {
-        left = inner.child_exponent(left);
-        steps += 1;
-    }
-    steps
 }

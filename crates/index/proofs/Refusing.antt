@@ -7,13 +7,13 @@ use Rattle.index.specs.Refusals.{Refusal, first_of, cells_told, table_refusal, r
 
 -- where a check does not refuse, its condition is false, and the next check decides
 passed : {X : Type 0} (b : Bool) (x : X) (later : Option X) → cond b (Some x) later ≡ None → (b ≡ false) × (later ≡ None)
-passed true x later e = absurd (let z : ◌≡◌ {A = ℕ} 0 1 = cc in omega arith)
+passed true x later e = cc
 passed false x later e = (refl, e)
 
 -- where it refuses, its condition is true
 stopped : {X : Type 0} (b : Bool) (x r : X) → cond b (Some x) None ≡ Some r → b ≡ true
 stopped true x r e = refl
-stopped false x r e = absurd (let z : ◌≡◌ {A = ℕ} 0 1 = cc in omega arith)
+stopped false x r e = cc
 
 pub stopped_first : (first later : Option Refusal) (r : Refusal) → first ≡ Some r → first_of first later ≡ Some r
 stopped_first first later r e = ap (λ o. first_of o later) e
@@ -23,7 +23,7 @@ passes_both first later e f = ap (λ o. first_of o later) e ∙ f
 
 pub both_passed : (first later : Option Refusal) → first_of first later ≡ None → (first ≡ None) × (later ≡ None)
 both_passed None later e = (refl, e)
-both_passed (Some r) later e = absurd (let z : ◌≡◌ {A = ℕ} 0 1 = cc in omega arith)
+both_passed (Some r) later e = cc
 
 -- a table that is not too short has room
 pub table_room : (plan : Plan) (n room : ℕ) → 0 < n → n ≤ 65536 → table_refusal plan n room ≡ None → Room plan n room

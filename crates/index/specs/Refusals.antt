@@ -1,5 +1,5 @@
 -- When an index refuses, and with which number and place.
-use Rattle.std.specs.Prelude.{◌≡◌, ℕ, ◌+◌, ◌^◌, cond, ◌||◌, length, Some, None, Ok, Err, Option, Result, ◌==◌, nat_le, nat_lt}
+use Rattle.std.specs.Prelude.{◌≡◌, ℕ, ◌+◌, ◌^◌, cond, ◌||◌, List, ◌++◌, length, codes, decimal, Some, None, Ok, Err, Option, Result, ◌==◌, nat_le, nat_lt}
 use Rattle.scheme.specs.Plan.{Plan}
 use Rattle.scheme.specs.Calls.{capped}
 use Rattle.index.specs.declared.fault.IndexFault.{IndexFault}
@@ -16,6 +16,24 @@ refusal_of (EventCount n) = record { number = 8; place = n }
 refusal_of (ShortTable cells) = record { number = 9; place = cells }
 refusal_of (OutOfRange event) = record { number = 10; place = event.0 }
 refusal_of (ShortTrace pieces) = record { number = 11; place = pieces }
+
+-- what is wrong, in words
+abbrev pub fault_reason : IndexFault → List ℕ
+fault_reason (EventCount n) = codes "number of events out of range"
+fault_reason (ShortTable cells) = codes "table too short"
+fault_reason (OutOfRange event) = codes "out of range"
+fault_reason (ShortTrace pieces) = codes "trace too short"
+
+-- what the place counts
+abbrev pub place_unit : IndexFault → List ℕ
+place_unit (EventCount n) = codes "number"
+place_unit (ShortTable cells) = codes "cell"
+place_unit (OutOfRange event) = codes "event"
+place_unit (ShortTrace pieces) = codes "piece"
+
+-- the text of a fault, as `fault 9 (table too short) at cell 15`
+abbrev pub fault_text : IndexFault → List ℕ
+fault_text f = codes "fault " ++ (decimal (refusal_of f).number ++ (codes " (" ++ (fault_reason f ++ (codes ") at " ++ (place_unit f ++ (codes " " ++ decimal (refusal_of f).place))))))
 
 -- 8: an index of no events, or of more than 65,536
 abbrev pub count_refusal : ℕ → Option Refusal

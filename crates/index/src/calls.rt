@@ -4,7 +4,6 @@ ghost use Rattle.std.specs.Prelude.{◌≡◌};
 ghost use Rattle.index.specs.Refusals.{cells_told};
 ghost use Rattle.index.specs.Calls.{Queried, Updated, AnsweredIfStanding, AmendedIfStanding};
 
-use crate::checks::{check_event, check_run, check_table};
 use crate::{Built, IndexFault};
 use scheme::{Answer, EventNo, Piece, Scheme};
 use semigroup::Semigroup;
@@ -12,9 +11,9 @@ use semigroup::Semigroup;
 impl<S: Scheme> Built<S> {
     /// The number of cells that the index has.
     pub fn cells(&self) -> u64
-        ensures told { result ≡ cells_told (S.Scheme.plan self.now.scheme) self.now.n }
+        ensures told { result ≡ cells_told (S.Scheme.plan self.now.draft.scheme) self.now.draft.events.count }
     {
-        self.scheme.cells(self.n)
+        self.draft.cells()
     }
 
     /// The product of the run from i to j, with the pieces that it was drawn from at the start of the trace.
@@ -25,12 +24,12 @@ impl<S: Scheme> Built<S> {
         j: EventNo,
         trace: &mut [Piece],
     ) -> Result<Answer<T>, IndexFault>
-        ensures queried { Queried T.Semigroup.op (S.Scheme.plan self.now.scheme) self.now.n table.now i.0 j.0 trace.old result trace.new }
-        ensures standing { AnsweredIfStanding T.Semigroup.op (S.Scheme.plan self.now.scheme) self.now.n table.now i.0 j.0 trace.old result trace.new }
+        ensures queried { Queried T.Semigroup.op (S.Scheme.plan self.now.draft.scheme) self.now.draft.events.count table.now i.0 j.0 trace.old result trace.new }
+        ensures standing { AnsweredIfStanding T.Semigroup.op (S.Scheme.plan self.now.draft.scheme) self.now.draft.events.count table.now i.0 j.0 trace.old result trace.new }
     {
-        check_table(&self.scheme, self.n, table.len())?;
-        check_run(&self.scheme, self.n, i, j, trace.len())?;
-        Ok(self.scheme.query(self.n, table, i, j, trace))
+        self.draft.check_table(table.len())?;
+        let run = self.draft.check_run(i, j, trace.len())?;
+        Ok(self.draft.scheme.query(table, run, trace))
     }
 
     /// Puts an element in the place of item p.
@@ -40,12 +39,14 @@ impl<S: Scheme> Built<S> {
         p: EventNo,
         element: T,
     ) -> Result<(), IndexFault>
-        ensures updated { Updated T.Semigroup.op (S.Scheme.plan self.now.scheme) self.now.n table.old p.0 element result table.new }
-        ensures standing { AmendedIfStanding T.Semigroup.op (S.Scheme.plan self.now.scheme) self.now.n table.old p.0 element result table.new }
+        ensures updated { Updated T.Semigroup.op (S.Scheme.plan self.now.draft.scheme) self.now.draft.events.count table.old p.0 element result table.new }
+        ensures standing { AmendedIfStanding T.Semigroup.op (S.Scheme.plan self.now.draft.scheme) self.now.draft.events.count table.old p.0 element result table.new }
     {
-        check_table(&self.scheme, self.n, table.len())?;
-        check_event(self.n, p)?;
-        self.scheme.update(self.n, table, p, element);
+        self.draft.check_table(table.len())?;
+        self.draft.check_event(p)?;
+        self.draft
+            .scheme
+            .update(self.draft.events, table, p, element);
         Ok(())
     }
 }

@@ -1,12 +1,15 @@
 //! Why an index refuses.
 
-ghost use Rattle.std.specs.Prelude.{◌≡◌};
-ghost use Rattle.index.specs.Refusals.{refusal_of};
+ghost use Rattle.std.specs.Prelude.{◌≡◌, Some};
+ghost use Rattle.index.specs.Refusals.{refusal_of, fault_reason, place_unit, fault_text};
 
+use crate::Refused;
 use scheme::EventNo;
+use std::error::Error;
+use std::fmt;
 
 /// A refusal of an index.
-#[derive(Clone, Copy)]
+#[derive(Clone, Copy, Debug, PartialEq, Eq)]
 pub enum IndexFault {
     /// 8: no events, or more than 65,536.
     EventCount { n: u32 },
@@ -36,10 +39,60 @@ impl IndexFault {
         ensures place { result ≡ (refusal_of self).place }
     {
         match self {
-            IndexFault::EventCount { n } => n as u64,
+            IndexFault::EventCount { n } => u64::from(n),
             IndexFault::ShortTable { cells } => cells,
-            IndexFault::OutOfRange { event } => event.0 as u64,
-            IndexFault::ShortTrace { pieces } => pieces as u64,
+            IndexFault::OutOfRange { event } => u64::from(event.0),
+            IndexFault::ShortTrace { pieces } => u64::from(pieces),
+        }
+    }
+
+    // What is wrong, in words.
+    fn reason(self) -> &'static str
+        ensures value { result.now ≡ fault_reason self }
+    {
+        match self {
+            IndexFault::EventCount { .. } => "number of events out of range",
+            IndexFault::ShortTable { .. } => "table too short",
+            IndexFault::OutOfRange { .. } => "out of range",
+            IndexFault::ShortTrace { .. } => "trace too short",
+        }
+    }
+
+    // What the place counts.
+    fn unit(self) -> &'static str
+        ensures value { result.now ≡ place_unit self }
+    {
+        match self {
+            IndexFault::EventCount { .. } => "number",
+            IndexFault::ShortTable { .. } => "cell",
+            IndexFault::OutOfRange { .. } => "event",
+            IndexFault::ShortTrace { .. } => "piece",
         }
     }
 }
+
+/// As `fault 9 (table too short) at cell 15`.
+impl fmt::Display for IndexFault {
+    ghost output = { λ f. Some (fault_text f) };
+
+    fn fmt<W: fmt::Write>(&self, f: &mut fmt::Formatter<W>) -> fmt::Result {
+        let number = self.number();
+        let reason = self.reason();
+        let unit = self.unit();
+        let place = self.place();
+        write!(f, "fault {number} ({reason}) at {unit} {place}")
+    }
+}
+
+impl Error for IndexFault {}
+
+/// The text of the fault.
+impl<S> fmt::Display for Refused<S> {
+    ghost output = { λ r. Some (fault_text r.fault) };
+
+    fn fmt<W: fmt::Write>(&self, f: &mut fmt::Formatter<W>) -> fmt::Result {
+        write!(f, "{}", self.fault)
+    }
+}
+
+impl<S: fmt::Debug + Drop> Error for Refused<S> {}

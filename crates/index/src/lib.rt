@@ -6,35 +6,29 @@
 
 #![tactic(auto)]
 
-ghost use Rattle.std.specs.Prelude.{◌<◌, ◌≤◌};
-
 mod building;
 mod calls;
 mod checks;
 mod fault;
 
 pub use fault::IndexFault;
+use scheme::EventCount;
 
 /// An index that is not built: it takes no queries and no updates.
-#[derive(Drop)]
+#[derive(Debug, Drop)]
 pub struct Draft<S> {
-    n: u32,
+    events: EventCount,
     scheme: S,
-    ghost some: { 0 < n },
-    ghost few: { n ≤ 65536 },
 }
 
-/// An index that was built over a table.
-#[derive(Drop)]
+/// An index that was built over a table, from its draft.
+#[derive(Debug, Drop)]
 pub struct Built<S> {
-    n: u32,
-    scheme: S,
-    ghost some: { 0 < n },
-    ghost few: { n ≤ 65536 },
+    draft: Draft<S>,
 }
 
 /// A build that was refused, with the draft handed back.
-#[derive(Drop)]
+#[derive(Debug, Drop)]
 pub struct Refused<S> {
     pub fault: IndexFault,
     pub draft: Draft<S>,

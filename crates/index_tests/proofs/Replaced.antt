@@ -1,6 +1,7 @@
 -- What a caller concludes from a history of an update and a query.
-use Rattle.std.proofs.Common.{◌≡◌, ℕ, ◌+◌, ◌≤◌, cond, ◌&&◌, leb, List, [], ◌∷◌, take, set, Some, None, Ok, sym, arith}
+use Rattle.std.proofs.Common.{◌≡◌, ℕ, ◌+◌, ◌≤◌, cond, ◌&&◌, leb, List, [], ◌∷◌, take, set, Some, None, Ok, Err, Result, sym, arith}
 use Rattle.std.proofs.lemmas.Bool.{le-leb}
+use Rattle.std.specs.Result.{result_ok}
 use Rattle.semigroup.specs.Product.{over}
 use Rattle.scheme.specs.Plan.{Plan}
 use Rattle.scheme.specs.declared.Piece.{Piece}
@@ -10,6 +11,11 @@ use Rattle.index.specs.Refusals.{table_refusal, run_refusal}
 use Rattle.index.specs.Calls.{Queried, Updated}
 use Rattle.index.specs.History.{query, update, answered, updated, none, queries, updates, becomes, Lasting}
 use Rattle.index.proofs.Refusing.{table_room, run_passed}
+
+-- what was granted is the result's value
+pub granted : {X E : Type 0} (result : Result X E) (x : X) → Some x ≡ result_ok result → result ≡ Ok x
+granted (Ok y) x e = cc
+granted (Err fault) x e = cc
 
 -- an update and then a query, each granted, are a history: the answer is the product of the list as updated
 pub answer_updated : {A : Type 0} (op : A → A → A) (plan : Plan) (n : ℕ) (before table next : List A) (p i j : ℕ) (x : A) (trace trace' : List Piece) (answer : Answer A) → Lasting op plan n before table

@@ -6,7 +6,7 @@ ghost use Rattle.std.proofs.Common.{rules};
 use semigroup::Semigroup;
 
 /// The first and the last of some labels.
-#[derive(Clone, Copy)]
+#[derive(Clone, Copy, Debug, PartialEq, Eq)]
 pub struct Ends {
     pub first: u32,
     pub last: u32,

@@ -29,20 +29,12 @@ const TABLE: [Ends; 6] = [
 ];
 
 fn build(table: &mut [Ends]) -> Result<Built<Flat>, Fail> {
-    let Ok(draft) = Draft::new(Flat, 3) else {
-        return Err(Fail::new("not drafted"));
-    };
-    match draft.build(table) {
-        Ok(built) => Ok(built),
-        Err(_) => Err(Fail::new("not built")),
-    }
+    let draft = Draft::new(Flat, 3).map_err(|_| Fail::new("not drafted"))?;
+    draft.build(table).map_err(|_| Fail::new("not built"))
 }
 
 fn granted<X: Drop>(res: Result<X, IndexFault>) -> Result<X, Fail> {
-    match res {
-        Ok(value) => Ok(value),
-        Err(_) => Err(Fail::new("refused")),
-    }
+    res.map_err(|_| Fail::new("refused"))
 }
 
 fn check_refused<X: Drop>(
@@ -51,25 +43,22 @@ fn check_refused<X: Drop>(
     number: u32,
     place: u64,
 ) -> Result<(), Fail> {
-    match res {
-        Ok(_) => Err(Fail::new("granted")),
-        Err(fault) => {
-            assert_eq!(rt; fault.number(), number);
-            assert_eq!(rt; fault.place(), place);
-            Ok(())
-        }
+    let fault = res.err().ok_or_else(|| Fail::new("granted"))?;
+    assert_eq!(rt; fault.number(), number);
+    assert_eq!(rt; fault.place(), place);
+    Ok(())
+}
+
+fn ends(first: u32, last: u32) -> Ends {
+    Ends { first, last }
+}
+
+fn piece(cell: u64, first: u32, last: u32) -> Piece {
+    Piece {
+        cell: CellNo(cell),
+        first: EventNo(first),
+        last: EventNo(last),
     }
-}
-
-fn check_ends(rt: &impl Abort, ends: Ends, first: u32, last: u32) {
-    assert_eq!(rt; ends.first, first);
-    assert_eq!(rt; ends.last, last);
-}
-
-fn check_piece(rt: &impl Abort, piece: Piece, cell: u64, first: u32, last: u32) {
-    assert_eq!(rt; piece.cell.0, cell);
-    assert_eq!(rt; piece.first.0, first);
-    assert_eq!(rt; piece.last.0, last);
 }
 
 #[test]
@@ -85,15 +74,14 @@ fn tables_too_short(rt: HostRuntime) -> Result<(), Fail> {
     let mut table = TABLE;
     let draft = granted(Draft::new(Flat, 3))?;
     assert_eq!(rt; draft.cells(), 6);
-    match draft.build(&mut table[0..5]) {
-        Ok(_) => Err(Fail::new("built over five cells")),
-        Err(refused) => {
-            assert_eq!(rt; refused.fault.number(), 9);
-            assert_eq!(rt; refused.fault.place(), 6);
-            assert!(rt; refused.draft.build(&mut table).is_ok());
-            Ok(())
-        }
-    }
+    let built = draft.build(&mut table[0..5]);
+    let refused = built
+        .err()
+        .ok_or_else(|| Fail::new("built over five cells"))?;
+    assert_eq!(rt; refused.fault.number(), 9);
+    assert_eq!(rt; refused.fault.place(), 6);
+    assert!(rt; refused.draft.build(&mut table).is_ok());
+    Ok(())
 }
 
 #[test]
@@ -110,14 +98,13 @@ fn other_tables_too_short(rt: HostRuntime) -> Result<(), Fail> {
 #[test]
 fn cells_uncounted(rt: HostRuntime) -> Result<(), Fail> {
     let draft = granted(Draft::new(Vast::Uncounted, 3))?;
-    match draft.build(&mut TABLE) {
-        Ok(_) => Err(Fail::new("built")),
-        Err(refused) => {
-            assert_eq!(rt; refused.fault.number(), 9);
-            assert_eq!(rt; refused.fault.place(), 1 << 40);
-            Ok(())
-        }
-    }
+    let refused = draft
+        .build(&mut TABLE)
+        .err()
+        .ok_or_else(|| Fail::new("built"))?;
+    assert_eq!(rt; refused.fault.number(), 9);
+    assert_eq!(rt; refused.fault.place(), 1 << 40);
+    Ok(())
 }
 
 #[test]
@@ -152,9 +139,9 @@ fn trace_of_a_run(rt: HostRuntime) -> Result<(), Fail> {
     let built = build(&mut table)?;
     let answer = granted(built.query(&table, EventNo(0), EventNo(2), &mut trace))?;
     assert_eq!(rt; answer.combinations, 0);
-    check_ends(&rt, answer.value, 0, 2);
-    check_piece(&rt, trace[0], 5, 0, 2);
-    check_piece(&rt, trace[1], 99, 99, 99);
+    assert_eq!(rt; answer.value, ends(0, 2));
+    assert_eq!(rt; trace[0], piece(5, 0, 2));
+    assert_eq!(rt; trace[1], NOWHERE);
     Ok(())
 }
 
@@ -165,10 +152,10 @@ fn tables_not_as_built(rt: HostRuntime) -> Result<(), Fail> {
     let built = build(&mut table)?;
     table[5] = Ends { first: 7, last: 8 };
     let changed = granted(built.query(&table, EventNo(0), EventNo(2), &mut trace))?;
-    check_ends(&rt, changed.value, 7, 8);
+    assert_eq!(rt; changed.value, ends(7, 8));
     granted(built.update(&mut table, EventNo(1), Ends { first: 5, last: 6 }))?;
-    check_ends(&rt, table[1], 5, 6);
-    check_ends(&rt, table[0], 0, 0);
+    assert_eq!(rt; table[1], ends(5, 6));
+    assert_eq!(rt; table[0], ends(0, 0));
     Ok(())
 }
 
@@ -177,14 +164,12 @@ fn two_pieces_not_as_built(rt: HostRuntime) -> Result<(), Fail> {
     let mut table = TABLE;
     let mut trace = [NOWHERE; 2];
     let draft = granted(Draft::new(Halving, 3))?;
-    let Ok(built) = draft.build(&mut table) else {
-        return Err(Fail::new("not built"));
-    };
+    let built = draft.build(&mut table).map_err(|_| Fail::new("not built"))?;
     table[3] = Ends { first: 7, last: 7 };
     table[5] = Ends { first: 8, last: 8 };
     let answer = granted(built.query(&table, EventNo(0), EventNo(2), &mut trace))?;
-    check_ends(&rt, answer.value, 7, 8);
-    check_piece(&rt, trace[0], 3, 0, 1);
-    check_piece(&rt, trace[1], 5, 2, 2);
+    assert_eq!(rt; answer.value, ends(7, 8));
+    assert_eq!(rt; trace[0], piece(3, 0, 1));
+    assert_eq!(rt; trace[1], piece(5, 2, 2));
     Ok(())
 }

@@ -12,17 +12,9 @@ use semigroup::Semigroup;
 pub fn with_middle<T: Semigroup>(table: &mut [T], middle: T, trace: &mut [Piece]) -> Option<T>
     ensures value { result ≡ (if nat_le 6 (length table.old) && nat_le 1 (length trace.old) then over T.Semigroup.op (slice_set (take 3 table.old) 1 middle) 0 3 else None) }
 {
-    let Ok(draft) = Draft::new(Flat, 3) else {
-        return None;
-    };
-    let Ok(built) = draft.build(table) else {
-        return None;
-    };
-    let Ok(()) = built.update(table, EventNo(1), middle) else {
-        return None;
-    };
-    match built.query(table, EventNo(0), EventNo(2), trace) {
-        Ok(answer) => Some(answer.value),
-        Err(_) => None,
-    }
+    let draft = Draft::new(Flat, 3).ok()?;
+    let built = draft.build(table).ok()?;
+    built.update(table, EventNo(1), middle).ok()?;
+    let answer = built.query(table, EventNo(0), EventNo(2), trace).ok()?;
+    Some(answer.value)
 }

@@ -6,7 +6,7 @@ ghost use Rattle.index_tests.specs.VastPlan.{plan_of_vast};
 ghost use Rattle.index_tests.specs.VastSound.{plan_of_vast_sound};
 
 use basic_schemes::flat::Flat;
-use scheme::{Answer, EventNo, Piece, Scheme, UNCOUNTED};
+use scheme::{Answer, EventCount, EventNo, EventRun, ParentExponent, Piece, Scheme, UNCOUNTED};
 use semigroup::Semigroup;
 
 /// Whether the 2^40 cells more are there.
@@ -23,50 +23,43 @@ impl Scheme for Vast {
 
     ghost sound = { plan_of_vast_sound };
 
-    fn child_exponent(&self, e: u32) -> u32 {
-        e / 2
+    fn child_exponent(&self, parents: ParentExponent) -> u32 {
+        Flat.child_exponent(parents)
     }
 
     fn budget(&self) -> u64 {
-        1
+        Flat.budget()
     }
 
-    fn cells(&self, n: u32) -> u64 {
+    fn cells(&self, events: EventCount) -> u64 {
         match self {
             Vast::Uncounted => UNCOUNTED,
-            Vast::Counted => Flat.cells(n),
+            Vast::Counted => Flat.cells(events),
         }
     }
 
-    fn piece_count(&self, _n: u32, _i: EventNo, _j: EventNo) -> u32 {
-        1
+    fn piece_count(&self, run: EventRun) -> u32 {
+        Flat.piece_count(run)
     }
 
-    fn fill<T: Semigroup>(&self, n: u32, table: &mut [T]) {
+    fn fill<T: Semigroup>(&self, events: EventCount, table: &mut [T]) {
         match self {
             Vast::Uncounted => unreachable(),
-            Vast::Counted => Flat.fill(n, table),
+            Vast::Counted => Flat.fill(events, table),
         }
     }
 
-    fn query<T: Semigroup>(
-        &self,
-        n: u32,
-        table: &[T],
-        i: EventNo,
-        j: EventNo,
-        trace: &mut [Piece],
-    ) -> Answer<T> {
+    fn query<T: Semigroup>(&self, table: &[T], run: EventRun, trace: &mut [Piece]) -> Answer<T> {
         match self {
             Vast::Uncounted => unreachable(),
-            Vast::Counted => Flat.query(n, table, i, j, trace),
+            Vast::Counted => Flat.query(table, run, trace),
         }
     }
 
-    fn update<T: Semigroup>(&self, n: u32, table: &mut [T], p: EventNo, element: T) {
+    fn update<T: Semigroup>(&self, events: EventCount, table: &mut [T], p: EventNo, element: T) {
         match self {
             Vast::Uncounted => unreachable(),
-            Vast::Counted => Flat.update(n, table, p, element),
+            Vast::Counted => Flat.update(events, table, p, element),
         }
     }
 }

@@ -6,7 +6,6 @@ use Rattle.kinds.specs.Chain.{chained}
 use Rattle.kinds.specs.Halts.{summed_up}
 use Rattle.kinds.specs.declared.chain_map.ChainMap.{ChainMap}
 use Rattle.kinds.specs.declared.halt_summary.HaltSummary.{HaltSummary}
-use Rattle.kinds.specs.declared.halt_summary.Summary.TheVariants.{Counted}
 use Rattle.basic_schemes.specs.FlatPlan.{flat_plan}
 use Rattle.basic_schemes.specs.HalvingPlan.{halving_plan}
 use Rattle.layer_parts.specs.Layout.{exponent_at, count_of_steps, layer_plan}
@@ -39,7 +38,7 @@ layout_of child e = map (exponent_at child e) (range_with_len 0 (count_of_steps 
 
 -- the summary of a run of so many events, c resumptions that met no halt and o halts still open
 abbrev pub summary_with : ℕ → ℕ → ℕ → HaltSummary
-summary_with events c o = record { summary = Counted (record { events = events; unmatched = c; pending = o }) }
+summary_with events c o = record { stored = Some (record { events = events; unmatched = c; pending = o }) }
 
 -- the map that sends v to a * v + b
 abbrev pub chain : ℕ → ℕ → ChainMap

@@ -2,7 +2,8 @@
 use Rattle.std.proofs.Common.{◌≡◌, ℕ, ◌+◌, ◌-◌, ◌*◌, ◌/◌, ◌%◌, ◌^◌, ◌<◌, ◌≤◌, min, sym, ap, ◌∙◌, mul_assoc, add-mul, one-mul, zero-mul, mul-one, mul-div_cancel, arith, pow_mono}
 use native.Mathlib.Nat.{add-mul-div_right, mul-mod_left}
 use Rattle.std.proofs.lemmas.Nat.{div-add-mod', div-mul-add, mod_below, mul-le, le-div, div_below, pow_pos, pow-add}
-use Rattle.layer_parts.specs.Parts.{Widths, Children, start_of_block, count_of_children, parent_count}
+use Rattle.scheme.specs.Blocks.{start_of_block}
+use Rattle.layer_parts.specs.Parts.{Widths, Children, count_of_children, parent_count}
 use Rattle.layer_parts.specs.Layout.{child_holding}
 
 pub row_before : (q m w : ℕ) → q < m → q * w + w ≤ m * w

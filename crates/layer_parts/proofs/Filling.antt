@@ -7,8 +7,9 @@ use Rattle.semigroup.proofs.Places.{nth_take, nth_drop}
 use Rattle.semigroup.proofs.Products.{over_blocks}
 use Rattle.scheme.specs.Plan.{Part, Plan, Within}
 use Rattle.scheme.specs.Table.{Written, Filled, Holds, due}
+use Rattle.scheme.specs.Blocks.{end_of_block}
 use Rattle.scheme.proofs.Writes.{written_part, written_over, written_as, filled_items, items_filled}
-use Rattle.layer_parts.specs.Parts.{beside, items, end_of_block, prefixes, suffixes, child_start, lifted, inner_table, inner_tables, step_part, count_of_children, parent_count, Children}
+use Rattle.layer_parts.specs.Parts.{beside, items, prefixes, suffixes, child_start, lifted, inner_table, inner_tables, step_part, count_of_children, parent_count, Children}
 use Rattle.layer_parts.specs.Layout.{exponent_at, layout_step, layout_steps}
 use Rattle.layer_parts.proofs.Blocks.{row_before, child_aligned}
 use Rattle.layer_parts.proofs.Laying.{filled_beside, filled_more}

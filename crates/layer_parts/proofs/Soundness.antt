@@ -6,8 +6,9 @@ use Rattle.std.proofs.lemmas.Bool.{lt-ltb, le-ltb, cases_lt, cases_eq, eqb-true,
 use Rattle.std.proofs.lemmas.Nat.{div-add-mod', le-div}
 use Rattle.scheme.specs.Plan.{Interval, Part, Plan, Sound, Covers, goes, Within}
 use Rattle.scheme.specs.Exponent.{exponent}
+use Rattle.scheme.specs.Blocks.{start_of_block, end_of_block}
 use Rattle.scheme.proofs.Exponents.{exponent_least, exponent_few, exponent_falls}
-use Rattle.layer_parts.specs.Parts.{beside, items, prefixes, suffixes, lifted, start_of_block, end_of_block, child_start, inner_table, inner_tables, step_part, count_of_children, parent_count, Widths, Children, HasAt}
+use Rattle.layer_parts.specs.Parts.{beside, items, prefixes, suffixes, lifted, child_start, inner_table, inner_tables, step_part, count_of_children, parent_count, Widths, Children, HasAt}
 use Rattle.layer_parts.specs.Layout.{Apart, exponent_at, count_of_steps, step_of_parting, layout_step, layout_steps, layer_part, child_holding, between, inner_start, moved, step_pieces, layer_pieces, layer_plan}
 use Rattle.layer_parts.proofs.Blocks.{widths_of, row_before, block_low, block_high, children_few, children_of, parent_below, parent_counted, child_starts, child_counted}
 use Rattle.layer_parts.proofs.Laying.{span_left, span_right, span_laid, laid_room, within_beside, within_laid, covers_moved, covers_append, covers_lifted, covers_none, covers_from, covers_to}

@@ -2,6 +2,7 @@
 -- each parent into children of w events, the last ones cut at n.
 use Rattle.std.specs.Prelude.{◌≡◌, ℕ, zero, suc, ◌+◌, ◌-◌, ◌*◌, ◌/◌, ◌%◌, ◌<◌, ◌≤◌, min, cond, nat_lt}
 use Rattle.scheme.specs.Plan.{Interval, Part, single}
+use Rattle.scheme.specs.Blocks.{start_of_block, end_of_block}
 
 -- ---- parts laid end to end
 
@@ -26,14 +27,6 @@ HasAt at p q = (c : ℕ) → c < p.size → (at + c < q.size) × (q.span (at + c
 -- each event alone
 abbrev pub items : (n : ℕ) → Part
 items n = record { size = n; span = single }
-
--- where the block of w events begins that p is in
-abbrev pub start_of_block : (w p : ℕ) → ℕ
-start_of_block w p = p / w * w
-
--- where it ends, of n events
-abbrev pub end_of_block : (n w p : ℕ) → ℕ
-end_of_block n w p = min n (start_of_block w p + w)
 
 -- for each event, from its child's first event to it
 abbrev pub prefixes : (n w : ℕ) → Part

@@ -3,8 +3,9 @@ use Rattle.std.specs.Prelude.{◌≡◌, ℕ, ◌+◌, ◌-◌, ◌*◌, ◌<◌
 use Rattle.std.specs.List.{slice_get}
 use Rattle.scheme.specs.Plan.{Part, Misses}
 use Rattle.scheme.specs.Table.{Holds, due}
+use Rattle.scheme.specs.Blocks.{start_of_block, end_of_block}
 use Rattle.scheme.specs.declared.Piece.{Piece}
-use Rattle.layer_parts.specs.Parts.{start_of_block, end_of_block, prefixes, suffixes, child_start}
+use Rattle.layer_parts.specs.Parts.{prefixes, suffixes, child_start}
 
 -- the prefix cell of the event before p, if that is in p's block, holds its product; the prefix cells begin at `at`
 abbrev pub PriorHolds : {A : Type 0} (op : A → A → A) (items : List A) (n w at p : ℕ) (t : List A) → Type 0

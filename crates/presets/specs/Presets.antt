@@ -1,5 +1,5 @@
 -- The six presets: the scheme of each budget from 1 to 6, and how many cells it takes at most.
-use Rattle.std.specs.Prelude.{◌≡◌, ℕ, ◌+◌, ◌*◌, ◌/◌, ◌≤◌, max}
+use Rattle.std.specs.Prelude.{◌≡◌, ℕ, ◌+◌, ◌*◌, ◌/◌, ◌≤◌, max, List, ◌++◌, codes, decimal}
 use Rattle.scheme.specs.Plan.{Plan}
 use Rattle.scheme.specs.Calls.{Events}
 use Rattle.scheme.specs.Exponent.{exponent}
@@ -7,6 +7,7 @@ use Rattle.basic_schemes.specs.FlatPlan.{flat_plan}
 use Rattle.basic_schemes.specs.HalvingPlan.{halving_plan}
 use Rattle.layer_parts.specs.Layout.{layer_plan, count_of_steps}
 use Rattle.presets.specs.declared.Preset.{Preset}
+use Rattle.presets.specs.declared.UnknownBudget.{UnknownBudget}
 use Rattle.presets.specs.declared.Preset.TheVariants.{One, Two, Three, Four, Five, Six}
 
 -- every run, or halved blocks, and up to two layers of blocks over one of them
@@ -42,3 +43,7 @@ pub record CellCount (preset : Preset) (n k : ℕ) : Type 0 where
   pub exact : k ≡ ((preset_plan preset).part n).size
   pub bounded : k ≤ cell_bound preset n
   pub reached : (preset_plan preset).budget ≤ 2 → k ≡ cell_bound preset n
+
+-- a budget that no preset has, in words
+abbrev pub unknown_budget_text : UnknownBudget → List ℕ
+unknown_budget_text e = codes "no preset has a budget of " ++ decimal e.budget

@@ -1,9 +1,10 @@
 //! The exponents of the children of blocks, as a table.
 
-ghost use Rattle.std.specs.Prelude.{◌≡◌, ◌<◌, ◌≤◌};
+ghost use Rattle.std.specs.Prelude.{◌≡◌, ◌≤◌};
 ghost use Rattle.presets.specs.Presets.{preset_plan, child_rule};
 
 use crate::Preset;
+use scheme::ParentExponent;
 
 // Four rows of 16, for the presets One to Four: in each, the child exponents of blocks of 2^1 to 2^16 events.
 const CHILD_EXPONENTS: [u8; 64] = [
@@ -17,12 +18,11 @@ const CHILD_EXPONENTS: [u8; 64] = [
     0, 1, 2, 2, 2, 2, 2, 2, 2, 2, 2, 2, 2, 2, 2, 2,
 ];
 
-// The exponent of the children of blocks of 2^e events, read from a preset's row.
-pub(crate) fn tabled_child(row: Preset, e: u32) -> u32
+// The exponent of the children of blocks, read from a preset's row.
+pub(crate) fn tabled_child(row: Preset, parents: ParentExponent) -> u32
     requires row { (preset_plan row).budget ≤ 4 }
-    requires exponent { (0 < e) × (e ≤ 16) }
-    ensures ruled { result ≡ child_rule row e }
+    ensures ruled { result ≡ child_rule row parents.blocks.e }
 {
-    let place = 16 * (row.number() - 1) + (e - 1);
-    CHILD_EXPONENTS[place as usize] as u32
+    let place = 16 * (u32::from(row) - 1) + (parents.blocks.e - 1);
+    u32::from(CHILD_EXPONENTS[place as usize])
 }

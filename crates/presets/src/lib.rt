@@ -2,17 +2,19 @@
 
 #![tactic(auto)]
 
-ghost use Rattle.std.specs.Prelude.{◌≡◌, ◌<◌, ◌⊎◌, MatchOption};
-ghost use Rattle.presets.specs.Presets.{preset_plan, CellCount};
+ghost use Rattle.std.specs.Prelude.{◌≡◌, ◌<◌, ◌⊎◌, Some, MatchOption, MatchResult};
+ghost use Rattle.presets.specs.Presets.{preset_plan, CellCount, unknown_budget_text};
 
 mod child_exponents;
 pub mod schemes;
 mod tabled;
 
-use scheme::{MAX_EVENTS, Scheme};
+use scheme::{EventCount, Scheme};
+use std::error::Error;
+use std::fmt;
 
 /// A scheme by its budget, the most pieces that a run can have.
-#[derive(Clone, Copy)]
+#[derive(Clone, Copy, Debug, PartialEq, Eq)]
 pub enum Preset {
     One,
     Two,
@@ -22,37 +24,45 @@ pub enum Preset {
     Six,
 }
 
-impl Preset {
-    /// The preset whose budget is b, if b is from 1 to 6.
-    pub fn of_budget(b: u32) -> Option<Preset>
-        ensures chosen { MatchOption result ((b < 1) ⊎ (6 < b)) (λ p. (preset_plan p).budget ≡ b) }
-    {
-        match b {
-            1 => Some(Preset::One),
-            2 => Some(Preset::Two),
-            3 => Some(Preset::Three),
-            4 => Some(Preset::Four),
-            5 => Some(Preset::Five),
-            6 => Some(Preset::Six),
-            _ => None,
+/// A budget that no preset has.
+#[derive(Clone, Copy, Debug, PartialEq, Eq)]
+pub struct UnknownBudget {
+    pub budget: u32,
+}
+
+impl fmt::Display for UnknownBudget {
+    ghost output = { λ e. Some (unknown_budget_text e) };
+
+    fn fmt<W: fmt::Write>(&self, f: &mut fmt::Formatter<W>) -> fmt::Result {
+        write!(f, "no preset has a budget of {}", self.budget)
+    }
+}
+
+impl Error for UnknownBudget {}
+
+impl TryFrom<u32> for Preset {
+    type Error = UnknownBudget;
+
+    ghost try_from_gives = { λ budget r. MatchResult r (λ p. (preset_plan p).budget ≡ budget) (λ e. ((budget < 1) ⊎ (6 < budget)) × (e.budget ≡ budget)) };
+
+    fn try_from(budget: u32) -> Result<Preset, UnknownBudget> {
+        match budget {
+            1 => Ok(Preset::One),
+            2 => Ok(Preset::Two),
+            3 => Ok(Preset::Three),
+            4 => Ok(Preset::Four),
+            5 => Ok(Preset::Five),
+            6 => Ok(Preset::Six),
+            _ => Err(UnknownBudget { budget }),
         }
     }
+}
 
-    /// The number of cells over n events, if n is from 1 to 65,536.
-    pub fn cells_for(self, n: u32) -> Option<u64>
-        ensures counted { MatchOption result ((n < 1) ⊎ (65536 < n)) (CellCount self n) }
-    {
-        if n == 0 || n > MAX_EVENTS {
-            return None;
-        }
-        Some(self.cells(n))
-    }
+impl From<Preset> for u32 {
+    ghost from_gives = { λ preset r. r ≡ (preset_plan preset).budget };
 
-    /// The budget of the preset.
-    pub fn number(self) -> u32
-        ensures budget { result ≡ (preset_plan self).budget }
-    {
-        match self {
+    fn from(preset: Preset) -> u32 {
+        match preset {
             Preset::One => 1,
             Preset::Two => 2,
             Preset::Three => 3,
@@ -60,5 +70,15 @@ impl Preset {
             Preset::Five => 5,
             Preset::Six => 6,
         }
+    }
+}
+
+impl Preset {
+    /// The number of cells over n events, if n is from 1 to 65,536.
+    pub fn cells_for(self, n: u32) -> Option<u64>
+        ensures counted { MatchOption result ((n < 1) ⊎ (65536 < n)) (CellCount self n) }
+    {
+        let events = EventCount::new(n)?;
+        Some(self.cells(events))
     }
 }

@@ -11,7 +11,7 @@ use crate::tabled::ByTable;
 use basic_schemes::flat::Flat;
 use basic_schemes::halving::Halving;
 use block_layer::BlockLayer;
-use scheme::{Answer, EventNo, Piece, Scheme};
+use scheme::{Answer, EventCount, EventNo, EventRun, ParentExponent, Piece, Scheme};
 use semigroup::Semigroup;
 
 type SchemeOne = ByTable<Flat>;
@@ -34,85 +34,50 @@ const FIVE: BlockLayer<SchemeThree> = BlockLayer { inner: THREE };
 
 const SIX: BlockLayer<SchemeFour> = BlockLayer { inner: FOUR };
 
+// A call of the scheme of a preset. Its elements are of any type, so the schemes are no `dyn Scheme`.
+macro_rules! of_its_scheme {
+    ($preset:expr, $call:ident($($argument:expr),*)) => {
+        match $preset {
+            Preset::One => ONE.$call($($argument),*),
+            Preset::Two => TWO.$call($($argument),*),
+            Preset::Three => THREE.$call($($argument),*),
+            Preset::Four => FOUR.$call($($argument),*),
+            Preset::Five => FIVE.$call($($argument),*),
+            Preset::Six => SIX.$call($($argument),*),
+        }
+    };
+}
+
 impl Scheme for Preset {
     ghost plan = { preset_plan };
 
     ghost sound = { preset_sound };
 
-    fn child_exponent(&self, e: u32) -> u32 {
-        match self {
-            Preset::One => ONE.child_exponent(e),
-            Preset::Two => TWO.child_exponent(e),
-            Preset::Three => THREE.child_exponent(e),
-            Preset::Four => FOUR.child_exponent(e),
-            Preset::Five => FIVE.child_exponent(e),
-            Preset::Six => SIX.child_exponent(e),
-        }
+    fn child_exponent(&self, parents: ParentExponent) -> u32 {
+        of_its_scheme!(self, child_exponent(parents))
     }
 
     fn budget(&self) -> u64 {
-        self.number() as u64
+        u64::from(u32::from(*self))
     }
 
-    fn cells(&self, n: u32) -> u64 {
-        match self {
-            Preset::One => ONE.cells(n),
-            Preset::Two => TWO.cells(n),
-            Preset::Three => THREE.cells(n),
-            Preset::Four => FOUR.cells(n),
-            Preset::Five => FIVE.cells(n),
-            Preset::Six => SIX.cells(n),
-        }
+    fn cells(&self, events: EventCount) -> u64 {
+        of_its_scheme!(self, cells(events))
     }
 
-    fn piece_count(&self, n: u32, i: EventNo, j: EventNo) -> u32 {
-        match self {
-            Preset::One => ONE.piece_count(n, i, j),
-            Preset::Two => TWO.piece_count(n, i, j),
-            Preset::Three => THREE.piece_count(n, i, j),
-            Preset::Four => FOUR.piece_count(n, i, j),
-            Preset::Five => FIVE.piece_count(n, i, j),
-            Preset::Six => SIX.piece_count(n, i, j),
-        }
+    fn piece_count(&self, run: EventRun) -> u32 {
+        of_its_scheme!(self, piece_count(run))
     }
 
-    fn fill<T: Semigroup>(&self, n: u32, table: &mut [T]) {
-        match self {
-            Preset::One => ONE.fill(n, table),
-            Preset::Two => TWO.fill(n, table),
-            Preset::Three => THREE.fill(n, table),
-            Preset::Four => FOUR.fill(n, table),
-            Preset::Five => FIVE.fill(n, table),
-            Preset::Six => SIX.fill(n, table),
-        }
+    fn fill<T: Semigroup>(&self, events: EventCount, table: &mut [T]) {
+        of_its_scheme!(self, fill(events, table))
     }
 
-    fn query<T: Semigroup>(
-        &self,
-        n: u32,
-        table: &[T],
-        i: EventNo,
-        j: EventNo,
-        trace: &mut [Piece],
-    ) -> Answer<T> {
-        match self {
-            Preset::One => ONE.query(n, table, i, j, trace),
-            Preset::Two => TWO.query(n, table, i, j, trace),
-            Preset::Three => THREE.query(n, table, i, j, trace),
-            Preset::Four => FOUR.query(n, table, i, j, trace),
-            Preset::Five => FIVE.query(n, table, i, j, trace),
-            Preset::Six => SIX.query(n, table, i, j, trace),
-        }
+    fn query<T: Semigroup>(&self, table: &[T], run: EventRun, trace: &mut [Piece]) -> Answer<T> {
+        of_its_scheme!(self, query(table, run, trace))
     }
 
-    fn update<T: Semigroup>(&self, n: u32, table: &mut [T], p: EventNo, element: T) {
-        match self {
-            Preset::One => ONE.update(n, table, p, element),
-            Preset::Two => TWO.update(n, table, p, element),
-            Preset::Three => THREE.update(n, table, p, element),
-            Preset::Four => FOUR.update(n, table, p, element),
-            Preset::Five => FIVE.update(n, table, p, element),
-            Preset::Six => SIX.update(n, table, p, element),
-        }
+    fn update<T: Semigroup>(&self, events: EventCount, table: &mut [T], p: EventNo, element: T) {
+        of_its_scheme!(self, update(events, table, p, element))
     }
 }

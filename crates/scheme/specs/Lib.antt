@@ -1,4 +1,5 @@
 pub mod Plan
 pub mod Table
 pub mod Calls
+pub mod Blocks
 pub mod Exponent

@@ -1,4 +1,4 @@
-use Rattle.std.proofs.Common.{arith}
+use Rattle.std.proofs.Common.{◌∙◌, arith}
 use lib.Count.{count_leading_zeros}
 use Rattle.presets.proofs.Table.{entry_ruled}
 use Rattle.presets.proofs.child_exponents.tabled_child.Goals as goal
@@ -7,5 +7,5 @@ use Rattle.presets.proofs.child_exponents.tabled_child.Goals as goal
 pub returns : goal.returns
 unfolding count_leading_zeros
 returns c = record {
-  ruled = entry_ruled c.args.row c.number.result c.args.e c.number.ensures.budget (omega arith) (omega arith) (omega arith);
+  ruled = c.from-2.ensures ∙ entry_ruled c.args.row c.from.result c.args.parents.blocks.e c.from.ensures (omega arith) (omega arith) (omega arith);
 }

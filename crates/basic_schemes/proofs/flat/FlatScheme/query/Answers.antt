@@ -7,6 +7,6 @@ pub returns : goal.returns
 returns g c =
     let t = c.args.table.now in
     record {
-      drawn = flat_drawn g.T.Semigroup.op c.args.n c.args.i.0 c.args.j.0 _ _ _ _ _ t c.args.trace.now c.index-table-cell.result
-          (omega arith) (omega arith) (omega arith) (slice_get_read t _ _ _ refl (omega arith) c.index-table-cell.is) (omega arith) (omega arith) (omega arith) (omega arith) (omega arith);
+      drawn = flat_drawn g.T.Semigroup.op c.args.run.events.count c.args.run.first.0 c.args.run.last.0 _ _ t c.args.trace.now c.index-table-cell.result
+          (omega arith) (omega arith) (omega arith) (slice_get_read t _ _ _ refl (omega arith) c.index-table-cell.is) c.cell_of-cell.ensures.place refl;
     }

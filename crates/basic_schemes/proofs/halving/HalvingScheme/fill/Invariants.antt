@@ -1,6 +1,6 @@
 use Rattle.basic_schemes.proofs.HalvingFills.{Rows}
 use Rattle.basic_schemes.proofs.halving.HalvingScheme.fill.Given as goal
 
--- the rows below `row` are computed
-abbrev pub invariant-loop-row : goal.invariant-loop-row
-invariant-loop-row g l = Rows g.T.Semigroup.op l.n l.row l.initial.table l.table
+-- the rows below h are computed
+abbrev pub invariant-loop-h : goal.invariant-loop-h
+invariant-loop-h g l = Rows g.T.Semigroup.op l.events.count l.h l.initial.table l.table
