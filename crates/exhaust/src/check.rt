@@ -1,25 +1,18 @@
 //! Answers, traces and updates against a plain list.
 
 use crate::sample::Random;
-use anyhow::anyhow;
+use anyhow::Context;
 use index::{Built, Draft};
 use kinds::chain_map::ChainMap;
-use scheme::{Answer, CellNo, EventNo, Piece, Scheme};
-use semigroup::product_of;
-use std::alloc::AllocError;
-
-/// What a trace holds where nothing was written.
-const NO_PIECE: Piece = Piece {
-    cell: CellNo(0),
-    first: EventNo(0),
-    last: EventNo(0),
-};
+use scheme::{Answer, EventNo, Piece, Scheme};
+use semigroup::{Semigroup, product_of};
+use std::alloc::Global;
 
 /// How many random runs are asked for of a full day.
 const RANDOM_RUNS: u32 = 100;
 
 /// How many answers were checked, and how many were not what they should be.
-#[derive(Drop)]
+#[derive(Default, Drop)]
 pub(crate) struct Tally {
     days: u64,
     runs: u64,
@@ -27,14 +20,6 @@ pub(crate) struct Tally {
 }
 
 impl Tally {
-    pub(crate) fn new() -> Tally {
-        Tally {
-            days: 0,
-            runs: 0,
-            mismatches: 0,
-        }
-    }
-
     pub(crate) fn tell(&self, rt: &HostRuntime, what: &str) -> anyhow::Result<()> {
         let Tally {
             days,
@@ -57,55 +42,42 @@ impl Tally {
     }
 }
 
-/// Two chain maps are the same if they send 0 and 1 to the same.
+/// Two chain maps are the same if they send 0 and 1 to the same. Their numbers are read modulo a prime, so a derived
+/// equality would tell apart maps that are the same.
 fn same(a: ChainMap, b: ChainMap) -> bool {
     a.apply(0) == b.apply(0) && a.apply(1) == b.apply(1)
 }
 
 /// Whether the pieces follow one another from i to j.
 fn follow(pieces: &[Piece], i: u32, j: u32) -> bool {
-    let mut next = i;
-    for piece in pieces {
-        if piece.first.0 != next || piece.last.0 < next {
-            return false;
-        }
-        next = piece.last.0.saturating_add(1);
-    }
-    next == j.saturating_add(1)
+    let end = pieces.iter().try_fold(i, |next, piece| {
+        (piece.first.0 == next && next <= piece.last.0).then(|| piece.last.0.saturating_add(1))
+    });
+    end == Some(j.saturating_add(1))
 }
 
 /// What the pieces' cells hold, combined.
-fn drawn(
-    rt: &HostRuntime,
-    table: &[ChainMap],
-    pieces: &[Piece],
-) -> Result<Option<ChainMap>, AllocError> {
-    let mut held = Vec::new(rt.alloc());
-    for piece in pieces {
-        if let Some(cell) = table.get(piece.cell.0 as usize) {
-            held.push(*cell)?;
-        }
-    }
-    Ok(product_of(&held))
+fn drawn(table: &[ChainMap], pieces: &[Piece]) -> Option<ChainMap> {
+    pieces
+        .iter()
+        .filter_map(|piece| table.get(piece.cell.0 as usize).copied())
+        .reduce(|left, right| left.combine(right))
 }
 
-/// Whether an answer is the plain product, drawn from pieces that follow one another, no more than the budget.
+/// Whether an answer is the plain product, drawn from pieces that follow one another, no more than the trace has room for.
 fn right(
-    rt: &HostRuntime,
     table: &[ChainMap],
     plain: Option<ChainMap>,
     answer: &Answer<ChainMap>,
     trace: &[Piece],
     (i, j): (u32, u32),
-) -> Result<bool, AllocError> {
+) -> bool {
     let count = (answer.combinations as usize).saturating_add(1);
-    let Some(pieces) = trace.get(0..count) else {
-        return Ok(false);
-    };
-    let (Some(plain), Some(held)) = (plain, drawn(rt, table, pieces)?) else {
-        return Ok(false);
-    };
-    Ok(same(plain, answer.value) && same(held, answer.value) && follow(pieces, i, j))
+    let is_answer = |product| same(product, answer.value);
+    plain.is_some_and(is_answer)
+        && trace.get(0..count).is_some_and(|pieces| {
+            drawn(table, pieces).is_some_and(is_answer) && follow(pieces, i, j)
+        })
 }
 
 /// An index over a table of a random day, and the day's plain list.
@@ -116,37 +88,56 @@ struct Day<S> {
     table: Vec<ChainMap>,
 }
 
-/// So many random elements.
-fn elements(
-    rt: &HostRuntime,
-    random: &mut Random,
-    count: u64,
-) -> Result<Vec<ChainMap>, AllocError> {
-    let mut elements = Vec::new(rt.alloc());
-    for _ in 0..count {
-        elements.push(random.chain_map())?;
+impl<S: Scheme> Day<S> {
+    /// Asks for one run, and counts whether the answer is right.
+    fn ask(&self, tally: &mut Tally, i: u32, j: u32) {
+        let mut trace = [Piece::default(); 8];
+        let end = (j as usize).saturating_add(1);
+        let plain = self.items.get(i as usize..end).and_then(product_of);
+        let answer = self
+            .built
+            .query(&self.table, EventNo(i), EventNo(j), &mut trace);
+        tally.count(answer.is_ok_and(|answer| right(&self.table, plain, &answer, &trace, (i, j))));
     }
-    Ok(elements)
+
+    /// Asks for every run of n events.
+    fn ask_all(&self, tally: &mut Tally, n: u32) {
+        for i in 0..n {
+            for j in i..n {
+                self.ask(tally, i, j);
+            }
+        }
+    }
+
+    /// Puts a random element in the place of an item, in the index and in the plain list.
+    fn change(&mut self, random: &mut Random, tally: &mut Tally, p: u32) {
+        let element = random.chain_map();
+        let updated = self.built.update(&mut self.table, EventNo(p), element);
+        if updated.is_err() {
+            tally.count(false);
+        }
+        if let Some(item) = self.items.get_mut(p as usize) {
+            *item = element;
+        }
+    }
 }
 
 /// Builds an index of n events over a random table.
 fn build<S: Scheme + Drop>(
-    rt: &HostRuntime,
+    alloc: Global,
     random: &mut Random,
     scheme: S,
     n: u32,
 ) -> anyhow::Result<Day<S>> {
-    let Ok(draft) = Draft::new(scheme, n) else {
-        return Err(anyhow!("not drafted"));
-    };
-    let mut table = elements(rt, random, draft.cells())?;
-    let mut items = Vec::new(rt.alloc());
-    for item in table.iter().take(n as usize) {
-        items.push(*item)?;
-    }
-    let Ok(built) = draft.build(&mut table) else {
-        return Err(anyhow!("not built"));
-    };
+    let draft = Draft::new(scheme, n).context("not drafted")?;
+    let mut table: Vec<ChainMap> = (0..draft.cells())
+        .map(|_| random.chain_map())
+        .collect(alloc)?;
+    let items = table.iter().copied().take(n as usize).collect(alloc)?;
+    let built = draft
+        .build(&mut table)
+        .map_err(|refused| refused.fault)
+        .context("not built")?;
     Ok(Day {
         built,
         items,
@@ -154,106 +145,41 @@ fn build<S: Scheme + Drop>(
     })
 }
 
-/// Asks for one run, and counts whether the answer is right.
-fn ask<S: Scheme>(
-    rt: &HostRuntime,
-    tally: &mut Tally,
-    day: &Day<S>,
-    (i, j): (u32, u32),
-) -> Result<(), AllocError> {
-    let mut trace = [NO_PIECE; 8];
-    let plain = match day.items.get(i as usize..(j as usize).saturating_add(1)) {
-        Some(run) => product_of(run),
-        None => None,
-    };
-    let is_right = match day
-        .built
-        .query(&day.table, EventNo(i), EventNo(j), &mut trace)
-    {
-        Ok(answer) => right(rt, &day.table, plain, &answer, &trace, (i, j))?,
-        Err(_) => false,
-    };
-    tally.count(is_right);
-    Ok(())
-}
-
-/// Asks for every run that begins at i.
-fn runs_from<S: Scheme>(
-    rt: &HostRuntime,
-    tally: &mut Tally,
-    day: &Day<S>,
-    i: u32,
-    n: u32,
-) -> Result<(), AllocError> {
-    for j in i..n {
-        ask(rt, tally, day, (i, j))?;
-    }
-    Ok(())
-}
-
-/// Asks for every run.
-fn all_runs<S: Scheme>(
-    rt: &HostRuntime,
-    tally: &mut Tally,
-    day: &Day<S>,
-    n: u32,
-) -> Result<(), AllocError> {
-    for i in 0..n {
-        runs_from(rt, tally, day, i, n)?;
-    }
-    Ok(())
-}
-
-/// Puts a random element in the place of an item, in the index and in the plain list.
-fn change<S: Scheme>(random: &mut Random, tally: &mut Tally, day: &mut Day<S>, p: u32) {
-    let element = random.chain_map();
-    if day
-        .built
-        .update(&mut day.table, EventNo(p), element)
-        .is_err()
-    {
-        tally.count(false);
-    }
-    if let Some(item) = day.items.get_mut(p as usize) {
-        *item = element;
-    }
-}
-
 /// Asks for every run of n events, changes every item, and asks for every run again.
 pub(crate) fn every_run<S: Scheme + Drop>(
-    rt: &HostRuntime,
+    alloc: Global,
     random: &mut Random,
     tally: &mut Tally,
     scheme: S,
     n: u32,
 ) -> anyhow::Result<()> {
-    let mut day = build(rt, random, scheme, n)?;
+    let mut day = build(alloc, random, scheme, n)?;
     tally.day();
-    all_runs(rt, tally, &day, n)?;
+    day.ask_all(tally, n);
     for p in 0..n {
-        change(random, tally, &mut day, p);
+        day.change(random, tally, p);
     }
-    all_runs(rt, tally, &day, n)?;
+    day.ask_all(tally, n);
     Ok(())
 }
 
 /// Asks for random runs of n events, and changes a random item after each.
 pub(crate) fn random_runs<S: Scheme + Drop>(
-    rt: &HostRuntime,
+    alloc: Global,
     random: &mut Random,
     tally: &mut Tally,
     scheme: S,
     n: u32,
 ) -> anyhow::Result<()> {
-    let mut day = build(rt, random, scheme, n)?;
+    let mut day = build(alloc, random, scheme, n)?;
     tally.day();
     for _ in 0..RANDOM_RUNS {
         let j = random.below(n);
         let i = random.below(j.saturating_add(1));
-        ask(rt, tally, &day, (i, j))?;
+        day.ask(tally, i, j);
         let p = random.below(n);
-        change(random, tally, &mut day, p);
+        day.change(random, tally, p);
     }
-    ask(rt, tally, &day, (0, n.saturating_sub(1)))?;
+    day.ask(tally, 0, n.saturating_sub(1));
     Ok(())
 }

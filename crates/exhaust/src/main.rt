@@ -21,20 +21,20 @@ fn small_days<S: Scheme + Copy>(
     what: &str,
     scheme: S,
 ) -> anyhow::Result<()> {
-    let mut tally = Tally::new();
+    let mut tally = Tally::default();
     for n in 1..=SMALL {
-        check::every_run(rt, random, &mut tally, scheme, n)?;
+        check::every_run(rt.alloc(), random, &mut tally, scheme, n)?;
     }
     tally.tell(rt, what)
 }
 
 /// Random runs of the fullest days.
 fn full_days(rt: &HostRuntime, random: &mut Random) -> anyhow::Result<()> {
-    let mut tally = Tally::new();
-    check::random_runs(rt, random, &mut tally, Flat, 1_000)?;
-    check::random_runs(rt, random, &mut tally, Halving, 1_000)?;
-    check::random_runs(rt, random, &mut tally, Halving, 65_535)?;
-    check::random_runs(rt, random, &mut tally, Halving, 65_536)?;
+    let mut tally = Tally::default();
+    check::random_runs(rt.alloc(), random, &mut tally, Flat, 1_000)?;
+    check::random_runs(rt.alloc(), random, &mut tally, Halving, 1_000)?;
+    check::random_runs(rt.alloc(), random, &mut tally, Halving, 65_535)?;
+    check::random_runs(rt.alloc(), random, &mut tally, Halving, 65_536)?;
     tally.tell(rt, "full days")
 }
 

@@ -1,7 +1,7 @@
 //! Days made by a random number generator.
 
 use kinds::chain_map::ChainMap;
-use kinds::kind::{Entry, Kind};
+use kinds::kind::Entry;
 use records::record::{Code, Event};
 
 /// A linear congruential generator.
@@ -45,7 +45,7 @@ impl Random {
             factor: (self.next_u32() & 0xffff) as u16,
             reserved: 0,
         };
-        ChainMap::of_entry(&Entry {
+        ChainMap::from(Entry {
             number: 0,
             event,
             code,

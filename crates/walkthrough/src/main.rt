@@ -5,17 +5,18 @@
 
 mod steps;
 
-use anyhow::anyhow;
+use anyhow::Context;
 use basic_schemes::flat::Flat;
 use basic_schemes::halving::Halving;
 use day::entries_of;
 use index::Draft;
 use kinds::chain_map::ChainMap;
-use kinds::kind::{Entry, Kind, elements_of};
+use kinds::kind::{Entry, elements_of};
 use scheme::Scheme;
 use session::file::{SessionFile, open};
 use std::alloc::AllocError;
 use std::fs;
+use steps::Desk;
 
 /// Event 1 as it should have been: with code 0, whose factor is 1.
 fn corrected_entry(file: &SessionFile, entries: &[Entry]) -> Option<Entry> {
@@ -28,9 +29,8 @@ fn corrected_entry(file: &SessionFile, entries: &[Entry]) -> Option<Entry> {
 fn table_of(rt: &HostRuntime, entries: &[Entry], cells: u64) -> Result<Vec<ChainMap>, AllocError> {
     let mut table = elements_of::<ChainMap>(rt.alloc(), entries)?;
     if let Some(first) = table.first().copied() {
-        for _ in entries.len() as u64..cells {
-            table.push(first)?;
-        }
+        let len = table.len().max(cells as usize);
+        table.resize(len, first)?;
     }
     Ok(table)
 }
@@ -44,34 +44,30 @@ fn walk<S: Scheme + Drop>(
     entries: &[Entry],
     corrected: ChainMap,
 ) -> anyhow::Result<()> {
-    let Ok(draft) = Draft::new(scheme, n) else {
-        return Err(anyhow!("not drafted"));
-    };
+    let draft = Draft::new(scheme, n).context("not drafted")?;
     let cells = draft.cells();
     println!(rt; "{name}: drafted for {n} events, {cells} cells")?;
     let mut table = table_of(rt, entries, cells)?;
     let draft = steps::build_short(rt, draft, &mut table)?;
-    let Ok(built) = draft.build(&mut table) else {
-        return Err(anyhow!("not built"));
-    };
+    let built = draft
+        .build(&mut table)
+        .map_err(|refused| refused.fault)
+        .context("not built")?;
     println!(rt; "built over {} cells", table.len())?;
-    steps::queries(rt, &built, &table)?;
-    steps::correct(rt, &built, &mut table, 1, corrected)?;
-    steps::correct(rt, &built, &mut table, 5, corrected)?;
-    steps::queries(rt, &built, &table)
+    let mut desk = Desk { rt, built, table };
+    desk.queries()?;
+    desk.correct(1, corrected)?;
+    desk.correct(5, corrected)?;
+    desk.queries()
 }
 
 fn run(rt: &HostRuntime) -> anyhow::Result<()> {
     let bytes = fs::read(rt, "day.ses")?;
-    let Ok(file) = open(&bytes) else {
-        return Err(anyhow!("day.ses is unusable"));
-    };
+    let file = open(&bytes).ok().context("day.ses is unusable")?;
     let entries = entries_of(rt.alloc(), &file)?;
-    let Some(entry) = corrected_entry(&file, &entries) else {
-        return Err(anyhow!("day.ses has only one event"));
-    };
+    let entry = corrected_entry(&file, &entries).context("day.ses has only one event")?;
     let n = file.header().events;
-    let corrected = ChainMap::of_entry(&entry);
+    let corrected = ChainMap::from(entry);
     steps::draft_of_none(rt)?;
     walk(rt, "flat", Flat, n, &entries, corrected)?;
     walk(rt, "halving", Halving, n, &entries, corrected)
