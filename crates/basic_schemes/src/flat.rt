@@ -6,7 +6,7 @@
 //! The loops go over numbers of rows and events: a cell is made of two others of the same table, which an iterator over the table
 //! would hold.
 
-ghost use Rattle.std.specs.Prelude.{◌≡◌, ◌+◌, ◌-◌, ◌<◌, ◌≤◌, length};
+ghost use Rattle.std.specs.Prelude.{◌≡◌, ◌+◌, ◌<◌, ◌≤◌, length};
 ghost use Rattle.basic_schemes.specs.FlatPlan.{row_start, flat_plan};
 ghost use Rattle.basic_schemes.specs.FlatRows.{Redone};
 ghost use Rattle.basic_schemes.specs.FlatLayout.{flat_sound};
@@ -48,7 +48,7 @@ impl Scheme for Flat {
     }
 
     fn query<T: Semigroup>(&self, table: &[T], run: EventRun, trace: &mut [Piece]) -> Answer<T> {
-        let cell = cell_of(run);
+        let cell = cell_of(run.events, run.last.0 - run.first.0, run.first.0);
         trace[0] = Piece {
             cell: CellNo(cell as u64),
             first: run.first,
@@ -70,17 +70,17 @@ impl Scheme for Flat {
     }
 }
 
-// The cell of a run.
-fn cell_of(run: EventRun) -> usize
-    ensures place { result ≡ row_start run.events.count (run.last.0 - run.first.0) + run.first.0 }
-    ensures below { result < (flat_plan.part run.events.count).size }
+// The cell of the run from `first` to `first + gap`.
+fn cell_of(events: EventCount, gap: u32, first: u32) -> usize
+    requires { gap + first < events.count }
+    ensures place { result ≡ row_start events.count gap + first }
+    ensures below { result < (flat_plan.part events.count).size }
 {
-    let first = run.first.0 as usize;
-    if run.first == run.last {
-        return first;
+    if gap == 0 {
+        return first as usize;
     }
-    let gap = run.last.0 as usize - first;
-    gap * run.events.count as usize - gap * (gap - 1) / 2 + first
+    let gap = gap as usize;
+    gap * events.count as usize - gap * (gap - 1) / 2 + first as usize
 }
 
 // Computes the cells of row `gap` for some first events, each from the row before.
@@ -92,17 +92,7 @@ fn refresh<T: Semigroup>(events: EventCount, table: &mut [T], gap: u32, firsts: 
 {
     for first in firsts {
         let last = first + gap;
-        let shorter = EventRun {
-            events,
-            first: EventNo(first),
-            last: EventNo(last - 1),
-        };
-        let run = EventRun {
-            events,
-            first: EventNo(first),
-            last: EventNo(last),
-        };
-        let made = table[cell_of(shorter)].combine(table[last as usize]);
-        table[cell_of(run)] = made;
+        let made = table[cell_of(events, gap - 1, first)].combine(table[last as usize]);
+        table[cell_of(events, gap, first)] = made;
     }
 }

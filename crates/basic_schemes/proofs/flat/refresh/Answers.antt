@@ -1,6 +1,5 @@
-use Rattle.std.proofs.Common.{◌≡◌, ◌+◌, ◌-◌, refl, arith}
+use Rattle.std.proofs.Common.{◌≡◌, ◌+◌, refl, arith}
 use Rattle.std.proofs.lemmas.Option.{slice_get_read}
-use Rattle.basic_schemes.specs.FlatPlan.{row_start}
 use Rattle.basic_schemes.specs.FlatRows.{Redone}
 use Rattle.basic_schemes.specs.FlatLayout.{cells_enough}
 use Rattle.basic_schemes.proofs.FlatFills.{redone_more}
@@ -17,10 +16,8 @@ loop-first-preserved g c =
     let step = c.in-Some.ensures.steps in
     let next : c.next.new.self.start ≡ first + 1 = omega arith in
     let before : Redone op n gap c.args.firsts.start first c.args.table.now t = rw step.1.1 c.loop-first.invariant.redone in
-    let less : first + gap - 1 - first ≡ gap - 1 = omega arith in
-    let gap-is : first + gap - first ≡ gap = omega arith in
-    let shorter : c.cell_of.result ≡ row_start n (gap - 1) + first = rw less at c.cell_of.ensures.place in
-    let place : c.cell_of-in-loop-first.result ≡ row_start n gap + first = rw gap-is at c.cell_of-in-loop-first.ensures.place in
+    let shorter = c.cell_of.ensures.place in
+    let place = c.cell_of-in-loop-first.ensures.place in
     let was = slice_get_read t _ c.cell_of.result _ refl (omega arith) c.index-table-cell_of.is in
     record {
       after = omega arith;
