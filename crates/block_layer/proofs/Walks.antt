@@ -11,7 +11,7 @@ use Rattle.layer_parts.proofs.Laying.{laid_room, laid_more}
 use Rattle.layer_parts.proofs.Layouts.{AtStep, at_first, at_end, at_live, at_next}
 use Rattle.layer_parts.proofs.Filling.{step_is}
 use Rattle.block_layer.specs.Steps.{StepFits}
-use Rattle.block_layer.specs.Walk.{StepFrom, GivesStep, PlacedFrom, GivesPlaced}
+use Rattle.block_layer.specs.Walk.{StepFrom, GivesStep, PlacedFrom, GivesPlaced, next_place}
 use Rattle.block_layer.specs.declared.walk.Steps.{Steps}
 use Rattle.block_layer.specs.declared.walk.PlacedSteps.{PlacedSteps}
 use Rattle.block_layer.specs.declared.steps.Step.{Step}
@@ -71,7 +71,7 @@ module _ {A : Type 0} (plan_of : A → Plan) where
   gives s r t = (t.inner ≡ s.inner) × GivesStep (plan_of s.inner.now) s.block.e r t.block.e
 
   abbrev pub gives_placed : PlacedSteps A → Option PlacedStep → PlacedSteps A → Type 0
-  gives_placed s r t = (t.steps.inner ≡ s.steps.inner) × ((t.events ≡ s.events) × GivesPlaced (plan_of s.steps.inner.now) s.events.count s.steps.block.e s.at r t.steps.block.e t.at)
+  gives_placed s r t = (t.steps.inner ≡ s.steps.inner) × ((t.events ≡ s.events) × GivesPlaced (plan_of s.steps.inner.now) s.events.count s.steps.block.e (next_place (plan_of s.steps.inner.now) s.events.count s.at s.last) r t.steps.block.e (next_place (plan_of s.steps.inner.now) s.events.count t.at t.last))
 
 -- a walk gives as many steps as the layout has left
 module _ {A : Type 0} (plan_of : A → Plan) (sound_of : (a : A) → Sound (plan_of a)) where

@@ -1,5 +1,5 @@
 -- The walk down the steps of a layout.
-use Rattle.std.specs.Prelude.{◌≡◌, ℕ, ◌+◌, ◌^◌, Option, MatchOption}
+use Rattle.std.specs.Prelude.{◌≡◌, ℕ, ◌+◌, ◌^◌, Option, Some, None, MatchOption}
 use Rattle.scheme.specs.Plan.{Plan}
 use Rattle.scheme.specs.Calls.{capped}
 use Rattle.layer_parts.specs.Parts.{step_part}
@@ -25,3 +25,9 @@ pub record PlacedFrom (plan : Plan) (n e at f end : ℕ) (placed : PlacedStep) :
 
 abbrev pub GivesPlaced : (plan : Plan) (n e at : ℕ) (given : Option PlacedStep) (next end : ℕ) → Type 0
 GivesPlaced plan n e at given next end = MatchOption given ((e ≡ 0) × ((next ≡ e) × (end ≡ at))) (PlacedFrom plan n e at next end)
+
+-- where the cells of the next step begin: after those of the step that was given last, which begin at `at`, or at `at` itself before
+-- the first
+abbrev pub next_place : (plan : Plan) (n at : ℕ) (last : Option Step) → ℕ
+next_place plan n at None = at
+next_place plan n at (Some step) = capped (at + (step_part plan.part n (2 ^ step.parents.e) (2 ^ step.children.e)).size)

@@ -3,7 +3,7 @@
 ghost use Rattle.std.specs.Prelude.{◌≡◌};
 ghost use Rattle.std.specs.Iterator.{at_most};
 ghost use Rattle.scheme.specs.Exponent.{exponent};
-ghost use Rattle.block_layer.specs.Walk.{GivesStep, GivesPlaced};
+ghost use Rattle.block_layer.specs.Walk.{GivesStep, GivesPlaced, next_place};
 
 use crate::cells::Layer;
 use crate::steps::{PlacedStep, Step};
@@ -36,32 +36,47 @@ impl<'a, S: Scheme> Iterator for Steps<'a, S> {
     }
 }
 
-/// The same, for a table of so many events, with the place where the cells of each step begin; 2^40 stands for that or more.
+/// The same, for a table of so many events, with the place where the cells of each step begin; 2^40 stands for that or more. The
+/// cells of a step are counted only once the step after it is asked for, since a query goes no further than the step that it seeks.
 #[derive(Drop)]
 pub(crate) struct PlacedSteps<'a, S> {
     steps: Steps<'a, S>,
     events: EventCount,
+    /// The step that was given last, and where its cells begin; at first none, and where those of the first step begin.
+    last: Option<Step>,
     at: u64,
+}
+
+impl<'a, S: Scheme> PlacedSteps<'a, S> {
+    // Where the cells of the next step begin.
+    fn next_at(&self) -> u64
+        ensures { result ≡ next_place (S.Scheme.plan self.now.steps.inner.now) self.now.events.count self.now.at self.now.last }
+    {
+        let Some(step) = self.last else {
+            return self.at;
+        };
+        let layer = Layer {
+            inner: self.steps.inner,
+            events: self.events,
+        };
+        UNCOUNTED.min(self.at.saturating_add(layer.step_cells(step)))
+    }
 }
 
 impl<'a, S: Scheme> Iterator for PlacedSteps<'a, S> {
     type Item = PlacedStep;
 
-    ghost next_gives = { λ s r t. (t.steps.inner ≡ s.steps.inner) × ((t.events ≡ s.events) × GivesPlaced (S.Scheme.plan s.steps.inner.now) s.events.count s.steps.block.e s.at r t.steps.block.e t.at) };
+    ghost next_gives = { λ s r t. (t.steps.inner ≡ s.steps.inner) × ((t.events ≡ s.events) × GivesPlaced (S.Scheme.plan s.steps.inner.now) s.events.count s.steps.block.e (next_place (S.Scheme.plan s.steps.inner.now) s.events.count s.at s.last) r t.steps.block.e (next_place (S.Scheme.plan s.steps.inner.now) s.events.count t.at t.last)) };
 
     ghost remaining = { λ s. at_most s.steps.block.e };
 
     fn next(&mut self) -> Option<PlacedStep> {
         let step = self.steps.next()?;
-        let layer = Layer {
-            inner: self.steps.inner,
-            events: self.events,
-        };
-        let at = self.at;
-        self.at = UNCOUNTED.min(at.saturating_add(layer.step_cells(step)));
+        self.at = self.next_at();
+        self.last = Some(step);
         Some(PlacedStep {
             step,
-            at: at as usize,
+            at: self.at as usize,
         })
     }
 }
@@ -82,11 +97,12 @@ impl<'a, S: Scheme> Layer<'a, S> {
     // The same, with their places: the cells of the first follow the items.
     pub(crate) fn placed_steps(&self) -> PlacedSteps<'a, S>
         ensures steps { (result.steps.inner ≡ self.now.inner) × (result.steps.block.e ≡ exponent self.now.events.count) }
-        ensures place { (result.events ≡ self.now.events) × (result.at ≡ self.now.events.count) }
+        ensures place { (result.events ≡ self.now.events) × (next_place (S.Scheme.plan self.now.inner.now) self.now.events.count result.at result.last ≡ self.now.events.count) }
     {
         PlacedSteps {
             steps: self.steps(),
             events: self.events,
+            last: None,
             at: u64::from(self.events.count),
         }
     }

@@ -2,13 +2,14 @@ use Rattle.std.proofs.Common.{◌≡◌, ◌+◌, sym, ap, ◌∙◌, arith, rul
 use borrow.Author.Tests.{tests}
 use Rattle.scheme.specs.Exponent.{exponent}
 use Rattle.layer_parts.specs.Layout.{layout_steps}
+use Rattle.block_layer.specs.Walk.{next_place}
 use Rattle.block_layer.proofs.Walks.{Walk, walk_first, placed_next, placed_at, gives_placed}
 use Rattle.block_layer.proofs.Seeking.{Found, seek_first, found}
 use Rattle.block_layer.proofs.cells.Layer.parting_step.Goals as goal
 use Rattle.block_layer.proofs.cells.Layer.parting_step.Goals.{After-find}
 
 step_found : (g : _) → (c : After-find g) → Found (g.S.Scheme.plan c.args.self.now.inner.now) c.args.self.now.events.count c.args.i.0 c.args.j.0 (gives_placed g.S.Scheme.plan)
-    (λ s k. (s.steps.inner ≡ c.args.self.now.inner) × ((s.events ≡ c.args.self.now.events) × Walk (g.S.Scheme.plan c.args.self.now.inner.now) c.args.self.now.events.count k s.steps.block.e s.at)) (λ x. x.step) c.find.new.self c.find.result
+    (λ s k. (s.steps.inner ≡ c.args.self.now.inner) × ((s.events ≡ c.args.self.now.events) × Walk (g.S.Scheme.plan c.args.self.now.inner.now) c.args.self.now.events.count k s.steps.block.e (next_place (g.S.Scheme.plan c.args.self.now.inner.now) c.args.self.now.events.count s.at s.last))) (λ x. x.step) c.find.new.self c.find.result
 step_found g c =
     let plan = g.S.Scheme.plan c.args.self.now.inner.now in
     let sound = g.met.S.Scheme.sound c.args.self.now.inner.now in
@@ -16,7 +17,7 @@ step_found g c =
     let ran = c.find.ensures.ran in
     let made = c.placed_steps.ensures in
     found plan sound n c.args.i.0 c.args.j.0 (omega arith) (omega arith) (omega arith) (gives_placed g.S.Scheme.plan)
-    (λ s k. (s.steps.inner ≡ c.args.self.now.inner) × ((s.events ≡ c.args.self.now.events) × Walk plan n k s.steps.block.e s.at)) (λ s. s.steps.block.e) (λ x. x.step)
+    (λ s k. (s.steps.inner ≡ c.args.self.now.inner) × ((s.events ≡ c.args.self.now.events) × Walk plan n k s.steps.block.e (next_place plan n s.at s.last))) (λ s. s.steps.block.e) (λ x. x.step)
     (λ s t k x right at given.
     let from = rw (right.0, right.1.0) at given.1.1 in
     ((given.0 ∙ right.0, (given.1.0 ∙ right.1.0, placed_next plan sound n k _ _ _ _ x right.1.1 from)), from.step))
