@@ -42,6 +42,18 @@ impl fmt::Display for TimeOfDay {
     }
 }
 
+/// The word for an effect.
+pub fn effect_word(effect: Option<Effect>) -> &'static str
+    ensures value { result.now ≡ effect_text effect }
+{
+    match effect {
+        Some(Effect::Nothing) => "none",
+        Some(Effect::Halt) => "halt",
+        Some(Effect::Resumption) => "resumption",
+        None => "unknown",
+    }
+}
+
 /// What a code does to trading, in a word.
 #[derive(Clone, Copy)]
 pub struct EffectWord {
@@ -53,12 +65,7 @@ impl fmt::Display for EffectWord {
     ghost output = { λ w. Some (effect_text w.effect) };
 
     fn fmt<W: fmt::Write>(&self, f: &mut fmt::Formatter<W>) -> fmt::Result {
-        f.write_str(match self.effect {
-            Some(Effect::Nothing) => "none",
-            Some(Effect::Halt) => "halt",
-            Some(Effect::Resumption) => "resumption",
-            None => "unknown",
-        })
+        f.write_str(effect_word(self.effect))
     }
 }
 
