@@ -1,9 +1,9 @@
 -- Parts laid end to end: their cells, intervals and covers, and what was filled.
-use Rattle.std.proofs.Common.{◌≡◌, ℕ, zero, suc, ◌+◌, ◌-◌, ◌*◌, ◌<◌, ◌≤◌, List, [], ◌∷◌, ◌++◌, sym, ap, ◌∙◌, ⊎_elim, add-zero, suc-mul, zero-mul, add-one, arith}
+use Rattle.std.proofs.Common.{◌≡◌, ℕ, zero, suc, ◌+◌, ◌-◌, ◌*◌, ◌<◌, ◌≤◌, List, [], ◌∷◌, ◌++◌, sym, refl, ap, ◌∙◌, ⊎_elim, add-zero, suc-mul, zero-mul, add-one, arith}
 use Rattle.std.proofs.lemmas.Bool.{lt-ltb, le-ltb, cases_lt}
 use Rattle.scheme.specs.Plan.{Interval, Part, Covers, done, goes, Within}
 use Rattle.scheme.specs.Table.{Filled, Holds}
-use Rattle.layer_parts.specs.Parts.{beside, laid, HasAt, child_start, lifted}
+use Rattle.layer_parts.specs.Parts.{nothing, beside, laid, HasAt, child_start, lifted}
 use Rattle.layer_parts.specs.Layout.{moved}
 
 -- ---- places
@@ -101,6 +101,9 @@ pub covers_to : (p : Part) (i k j : ℕ) (cs : List ℕ) → k ≡ j → Covers 
 covers_to p i k j cs e c = rw e at c
 
 -- ---- what is filled, and what holds
+
+pub filled_none : {A : Type 0} (op : A → A → A) (xs : List A) (at : ℕ) (t : List A) → Filled op xs nothing at t t
+filled_none op xs at t = record { holds = λ c h. absurd (omega arith); below = λ c h. refl; above = λ c h. refl }
 
 -- a part and then the one beside it
 pub filled_beside : {A : Type 0} (op : A → A → A) (xs : List A) (p q : Part) (at : ℕ) (before t after : List A)

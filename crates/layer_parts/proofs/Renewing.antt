@@ -1,5 +1,5 @@
 -- Parts after an update of one item.
-use Rattle.std.proofs.Common.{◌≡◌, ℕ, ◌+◌, ◌-◌, ◌*◌, ◌/◌, ◌<◌, ◌≤◌, List, length, take, drop, set, Some, sym, ◌∙◌, inl, inr, ⊎_elim, add_assoc, add-mul, one-mul, zero-add, arith}
+use Rattle.std.proofs.Common.{◌≡◌, ℕ, ◌+◌, ◌-◌, ◌*◌, ◌/◌, ◌<◌, ◌≤◌, List, length, take, drop, set, Some, sym, refl, ◌∙◌, inl, inr, ⊎_elim, add_assoc, add-mul, one-mul, zero-add, arith}
 use borrow.Rule.Slice.PartMut.{put_mid}
 use Rattle.std.specs.List.{slice_get}
 use Rattle.std.proofs.lemmas.List.{length-take-le, length-drop}
@@ -15,7 +15,7 @@ use Rattle.scheme.specs.Blocks.{start_of_block}
 use Rattle.scheme.proofs.Writes.{nth_part_below, nth_part, nth_part_above}
 use Rattle.scheme.proofs.Standing.{renewed_stands}
 use Rattle.scheme.proofs.Changes.{take_changed}
-use Rattle.layer_parts.specs.Parts.{beside, laid, items, prefixes, suffixes, child_start, lifted, inner_table, inner_tables, step_part, count_of_children, parent_count, Widths}
+use Rattle.layer_parts.specs.Parts.{nothing, beside, laid, items, prefixes, suffixes, child_start, lifted, inner_table, inner_tables, step_part, count_of_children, parent_count, Widths}
 use Rattle.layer_parts.specs.Layout.{child_holding}
 use Rattle.layer_parts.specs.Writes.{PartRenewed}
 use Rattle.layer_parts.proofs.Blocks.{row_before, children_of, children_few, children_inside, parent_below, parent_counted, child_starts, child_counted}
@@ -25,6 +25,9 @@ use Rattle.layer_parts.proofs.Filling.{ChildrenHeld, child_suffix, lifts}
 -- ---- parts laid end to end
 
 module _ {A : Type 0} (op : A → A → A) (n p : ℕ) where
+  pub renewed_none : (at : ℕ) (t : List A) → PartRenewed op n p nothing at (Unit {0}) t t
+  renewed_none at t = record { holds = λ _ items x len same held c h. absurd (omega arith); missing = λ c h out. refl; below = λ c h. refl; above = λ c h. refl }
+
   -- a part and then the one beside it, which may be sure that the first holds
   pub renewed_beside : (P Q : Part) (at : ℕ) (Start : Type 0) (t u v : List A) → n ≤ at → PartRenewed op n p P at (Unit {0}) t u → PartRenewed op n p Q (at + P.size) Start u v
       → (Holds op (take n u) P at u → Start) → PartRenewed op n p (beside P Q) at (Unit {0}) t v

@@ -1,5 +1,5 @@
 -- Prefix and suffix cells, computed one from the other.
-use Rattle.std.proofs.Common.{◌≡◌, ℕ, zero, suc, ◌+◌, ◌-◌, ◌*◌, ◌<◌, ◌≤◌, List, length, take, set, Some, sym, ap, ◌∙◌, inl, inr, ⊎_elim, zero-mul, arith}
+use Rattle.std.proofs.Common.{◌≡◌, ℕ, zero, suc, ◌+◌, ◌-◌, ◌*◌, ◌<◌, ◌≤◌, List, length, take, set, Some, sym, refl, ap, ◌∙◌, inl, inr, ⊎_elim, zero-mul, arith}
 use native.Mathlib.Nat.{zero-div}
 use Rattle.std.specs.List.{slice_get}
 use Rattle.std.proofs.lemmas.Bool.{cases_eq, cases_lt}
@@ -16,6 +16,9 @@ use Rattle.layer_parts.proofs.Blocks.{block_low, block_high, block_same, block_a
 -- ---- one cell more
 
 module _ {A : Type 0} (op : A → A → A) (items : List A) (part : Part) (at : ℕ) (Start : Type 0) (before : List A) where
+  pub redone_none : (k : ℕ) → Redone op items part at k k Start before before
+  redone_none k = record { holds = λ s c l h. absurd (omega arith); below = λ c h. refl; above = λ c h. refl }
+
   -- one cell more at the end
   pub redone_up : (first k : ℕ) (t : List A) (v : A) → first ≤ k → at + k < length t → Redone op items part at first k Start before t
       → (Start → due op items part.span k ≡ Some v) → Redone op items part at first (k + 1) Start before (set t (at + k) v)

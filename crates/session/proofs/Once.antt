@@ -1,5 +1,6 @@
 -- A well-formed file has no fault, and another has one first fault.
-use Rattle.std.proofs.Common.{◌≡◌, ℕ, ◌<◌, ◌⊎◌, List, length, Ok, Err, Result, sym, refl, ap, ◌∙◌, inl, inr, arith, MatchResult}
+use Rattle.std.proofs.Common.{◌≡◌, ℕ, ◌<◌, ◌⊎◌, List, length, is_ok, Ok, Err, Decides, Result, sym, refl, ap, ◌∙◌, inl, inr, arith, MatchResult}
+use Rattle.std.proofs.lemmas.Bool.{false≢true}
 use Rattle.session.specs.declared.fault.FileFault.{FileFault}
 use Rattle.session.specs.declared.fault.FileFault.TheVariants.{Length, Edition, Count, Sections, Code, Event, Time}
 use Rattle.records.specs.Fields.{header_of}
@@ -61,7 +62,11 @@ pub one_fault : (b : List ℕ) (f g : FileFault) → First b f → First b g →
 one_fault b f g p q =
     step_once same (step_once same (step_once same (step_once same (step_once same (step_once (place_once Code) (step_once (place_once Event) (place_once Time))))))) (climbed b f p) (climbed b g q)
 
--- what opening says of faults, from a result that is either
+-- the two halves of opening, from a result that is either
+pub decides : {X : Type 0} (b : List ℕ) (r : Result X FileFault) → MatchResult r (λ _. WellFormed b) (First b) → Decides (is_ok r) (WellFormed b)
+decides b (Ok x) w = (λ _. w, λ _. refl)
+decides b (Err g) p = (λ e. absurd (false≢true e), λ w. absurd (no_fault b g p w))
+
 pub refuses : {X : Type 0} (b : List ℕ) (r : Result X FileFault) → MatchResult r (λ _. WellFormed b) (First b) → FirstRefused b r
 refuses b (Ok x) w = λ f. (λ e. absurd (let z : ◌≡◌ {A = ℕ} 0 1 = cc in omega arith), λ p. absurd (no_fault b f p w))
 refuses b (Err g) p = λ f. (λ e. (let s : g ≡ f = cc in rw s at p), λ q. ap Err (one_fault b g f p q))
