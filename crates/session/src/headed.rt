@@ -59,7 +59,8 @@ impl HeadedFile<'_> {
     }
 
     /// 7: that no event is earlier than the one before it. A loop, as it keeps the time of the event before: a search would
-    /// decode each event twice.
+    /// decode each event twice. Not inlined: amid the fields of the header that time would be kept in memory.
+    #[inline(never)]
     fn check_times(&self) -> Result<(), FileFault>
         requires codes { CodesGood self.now.bytes.now }
         requires events { EventsGood self.now.bytes.now }
