@@ -42,8 +42,9 @@ impl<'a, S: Scheme> Iterator for Steps<'a, S> {
 pub(crate) struct PlacedSteps<'a, S> {
     steps: Steps<'a, S>,
     events: EventCount,
-    /// The step that was given last, and where its cells begin; at first none, and where those of the first step begin.
+    /// The step that was given last, none at first.
     last: Option<Step>,
+    /// Where its cells begin; before the first step, where those of the first begin.
     at: u64,
 }
 

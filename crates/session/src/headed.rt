@@ -59,7 +59,7 @@ impl HeadedFile<'_> {
     }
 
     /// 7: that no event is earlier than the one before it. A loop, as it keeps the time of the event before: a search would
-    /// decode each event twice. Not inlined: amid the fields of the header that time would be kept in memory.
+    /// decode each event twice. Not inlined into `open`, where the compiler would keep that time in memory and not in a register.
     #[inline(never)]
     fn check_times(&self) -> Result<(), FileFault>
         requires codes { CodesGood self.now.bytes.now }
