@@ -17,17 +17,17 @@ pub record StepFrom (plan : Plan) (e f : ℕ) (step : Step) : Type 0 where
 abbrev pub GivesStep : (plan : Plan) (e : ℕ) (given : Option Step) (next : ℕ) → Type 0
 GivesStep plan e given next = MatchOption given ((e ≡ 0) × (next ≡ e)) (StepFrom plan e next)
 
--- that step over n events, its cells from `at` on, and those of the next step from `end` on
-pub record PlacedFrom (plan : Plan) (n e at f end : ℕ) (placed : PlacedStep) : Type 0 where
-  pub step : StepFrom plan e f placed.step
-  pub place : placed.at ≡ at
-  pub next : end ≡ capped (at + (step_part plan.part n (2 ^ placed.step.parents.e) (2 ^ placed.step.children.e)).size)
-
-abbrev pub GivesPlaced : (plan : Plan) (n e at : ℕ) (given : Option PlacedStep) (next end : ℕ) → Type 0
-GivesPlaced plan n e at given next end = MatchOption given ((e ≡ 0) × ((next ≡ e) × (end ≡ at))) (PlacedFrom plan n e at next end)
-
 -- where the cells of the next step begin: after those of the step that was given last, which begin at `at`, or at `at` itself before
 -- the first
 abbrev pub next_place : (plan : Plan) (n at : ℕ) (last : Option Step) → ℕ
 next_place plan n at None = at
 next_place plan n at (Some step) = capped (at + (step_part plan.part n (2 ^ step.parents.e) (2 ^ step.children.e)).size)
+
+-- that step over n events, its cells from `at` on, and those of the next step from `end` on
+pub record PlacedFrom (plan : Plan) (n e at f end : ℕ) (placed : PlacedStep) : Type 0 where
+  pub step : StepFrom plan e f placed.step
+  pub place : placed.at ≡ at
+  pub next : end ≡ next_place plan n at (Some placed.step)
+
+abbrev pub GivesPlaced : (plan : Plan) (n e at : ℕ) (given : Option PlacedStep) (next end : ℕ) → Type 0
+GivesPlaced plan n e at given next end = MatchOption given ((e ≡ 0) × ((next ≡ e) × (end ≡ at))) (PlacedFrom plan n e at next end)
